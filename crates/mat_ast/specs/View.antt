@@ -1,0 +1,113 @@
+-- What a tree of the code stands for.
+use Rattle.std.specs.Prelude.{ℕ, List, [], ◌∷◌, map, Option, Some, None}
+use Rattle.fic_base.specs.declared.place.Place.{Place}
+use Rattle.mat_ast.specs.declared.tree.Expr.{Expr, fold-Expr}
+use Rattle.mat_ast.specs.declared.tree.Arg.{Arg, fold-Arg}
+use Rattle.mat_ast.specs.declared.tree.Arg.{Arg-F}
+use Rattle.mat_ast.specs.declared.tree.ExprKind.{ExprKind-F}
+use Rattle.mat_ast.specs.declared.tree.Expr.{Expr-F}
+use Rattle.mat_ast.specs.declared.tree.Row.{Row-F}
+use Rattle.mat_ast.specs.declared.tree.Row as code
+use Rattle.mat_ast.specs.declared.tree.Row.{fold-Row}
+use Rattle.mat_ast.specs.declared.tree.Stmt.{Stmt, fold-Stmt}
+use Rattle.mat_ast.specs.declared.tree.Stmt.{Stmt-F}
+use Rattle.mat_ast.specs.declared.tree.Arm.{Arm-F}
+use Rattle.mat_ast.specs.declared.tree.Func.{Func}
+use Rattle.mat_ast.specs.Tree.{Exp, Number, Words, Name, Apply, End, Unary, Binary, Post, Range, RangeBy, Paren, Matrix, Args, NoArgs, Whole, Item, Row, RowEnd, Cell, Rows, NoRows, RowOn, Sta, Assign, Store, Multi, IfOnly, IfElse, ForEach, WhileTrue, BreakOff, GoOn, Arms, NoArms, Arm, Block, Done, Next, Fun}
+
+abbrev pub args_of : List (Option Exp) → Args
+args_of [] = NoArgs
+args_of (None ∷ more) = Whole (args_of more)
+args_of (Some e ∷ more) = Item e (args_of more)
+
+abbrev pub row_of : List Exp → Row
+row_of [] = RowEnd
+row_of (e ∷ more) = Cell e (row_of more)
+
+abbrev pub rows_of : List Row → Rows
+rows_of [] = NoRows
+rows_of (r ∷ more) = RowOn r (rows_of more)
+
+-- one level, with the parts already seen
+abbrev pub arg_step : Arg-F (Option Exp) (Place → Exp) Exp Row → Option Exp
+arg_step Arg-F.All = None
+arg_step (Arg-F.Item e) = Some e
+
+abbrev pub range_at : Exp → Option Exp → Exp → Place → Exp
+range_at first None last at = Range at first last
+range_at first (Some step) last at = RangeBy at first step last
+
+abbrev pub kind_step : ExprKind-F (Option Exp) (Place → Exp) Exp Row → Place → Exp
+kind_step (ExprKind-F.Number text imaginary) at = Number at text imaginary
+kind_step (ExprKind-F.Words text) at = Words at text
+kind_step (ExprKind-F.Name text) at = Name at text
+kind_step (ExprKind-F.Apply text opens args) at = Apply at text opens (args_of args)
+kind_step ExprKind-F.End at = End at
+kind_step (ExprKind-F.Unary op e) at = Unary at op e
+kind_step (ExprKind-F.Binary op a b) at = Binary at op a b
+kind_step (ExprKind-F.Post op e) at = Post at op e
+kind_step (ExprKind-F.Range first step last) at = range_at first step last at
+kind_step (ExprKind-F.Paren e) at = Paren at e
+kind_step (ExprKind-F.Matrix rows) at = Matrix at (rows_of rows)
+
+abbrev pub expr_step : Expr-F (Option Exp) (Place → Exp) Exp Row → Exp
+expr_step e = e.kind e.place
+
+abbrev pub row_step : Row-F (Option Exp) (Place → Exp) Exp Row → Row
+row_step r = row_of r.cells
+
+abbrev pub expr_view : Expr → Exp
+expr_view = fold-Expr (Option Exp) (Place → Exp) Exp Row arg_step kind_step expr_step row_step
+
+abbrev pub arg_view : Arg → Option Exp
+arg_view = fold-Arg (Option Exp) (Place → Exp) Exp Row arg_step kind_step expr_step row_step
+
+abbrev pub args_view : List Arg → Args
+args_view args = args_of (map arg_view args)
+
+abbrev pub row_view : code.Row → Row
+row_view = fold-Row (Option Exp) (Place → Exp) Exp Row arg_step kind_step expr_step row_step
+
+abbrev pub rows_view : List code.Row → Rows
+rows_view rows = rows_of (map row_view rows)
+
+abbrev pub block_of : List Sta → Block
+block_of [] = Done
+block_of (s ∷ more) = Next s (block_of more)
+
+-- an arm, with its statements already seen
+abbrev pub Seen : Type 0
+Seen = Exp × Block
+
+abbrev pub arm_step : Arm-F Sta Seen → Seen
+arm_step a = (expr_view a.condition, block_of a.body)
+
+abbrev pub arms_of : List Seen → Arms
+arms_of [] = NoArms
+arms_of (a ∷ more) = Arm a.0 a.1 (arms_of more)
+
+abbrev pub if_at : Place → Arms → Option (List Sta) → Sta
+if_at at arms None = IfOnly at arms
+if_at at arms (Some other) = IfElse at arms (block_of other)
+
+abbrev pub stmt_step : Stmt-F Sta Seen → Sta
+stmt_step (Stmt-F.Assign to value) = Assign to (expr_view value)
+stmt_step (Stmt-F.Store to opens args value) = Store to opens (args_view args) (expr_view value)
+stmt_step (Stmt-F.Multi targets call) = Multi targets (expr_view call)
+stmt_step (Stmt-F.If at arms other) = if_at at (arms_of arms) other
+stmt_step (Stmt-F.For at to range body) = ForEach at to (expr_view range) (block_of body)
+stmt_step (Stmt-F.While at condition body) = WhileTrue at (expr_view condition) (block_of body)
+stmt_step (Stmt-F.Break at) = BreakOff at
+stmt_step (Stmt-F.Continue at) = GoOn at
+
+abbrev pub stmt_view : Stmt → Sta
+stmt_view = fold-Stmt Sta Seen stmt_step arm_step
+
+abbrev pub block_view : List Stmt → Block
+block_view body = block_of (map stmt_view body)
+
+abbrev pub func_view : Func → Fun
+func_view f = record { name = f.name; inputs = f.inputs; outputs = f.outputs; body = block_view f.body }
+
+abbrev pub funcs_view : List Func → List Fun
+funcs_view = map func_view

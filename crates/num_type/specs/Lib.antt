@@ -1,0 +1,4 @@
+pub mod Containers
+pub mod Types
+pub mod View
+pub mod Whole

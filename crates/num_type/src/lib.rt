@@ -1,0 +1,14 @@
+//! Whole numbers, fixed-point types and want of memory.
+#![tactic(auto)]
+
+mod container;
+mod int;
+mod memory;
+mod methods;
+mod num_type;
+
+pub use container::Container;
+pub use int::Int;
+pub use memory::{Memory, Stop};
+pub use methods::{Overflow, Rounding};
+pub use num_type::{FRACTION_MAX, FRACTION_MIN, NumType, WORD_MAX};
