@@ -1,0 +1,34 @@
+-- What reads and puts leave, and when they may fail.
+use Rattle.std.specs.Prelude.{◌≡◌, ℕ, ◌+◌, ◌-◌, ◌^◌, ◌≤◌, min, List, ◌++◌, take, length, Option, Some, None, Result, Ok, Err}
+use Rattle.fic_io.specs.declared.shelf.ShelfFault.{ShelfFault}
+use Rattle.fic_io.specs.declared.shelf.ShelfFault.TheVariants as fault
+use Rattle.fic_io.specs.declared.sink.Failed.{Failed}
+
+-- a count of faults rose, or stands at its end
+abbrev pub Rose : ℕ → ℕ → Type 0
+Rose before now = min (before + 1) (2 ^ 64 - 1) ≤ now
+
+-- what holds of the bytes, where they are told
+abbrev pub Told : {A : Type 0} → Option A → (A → Type 0) → Type 0
+Told None P = Unit {0}
+Told (Some a) P = P a
+
+-- what a read of a name leaves: the count of faults, the name of the last failure, and the bytes read into
+abbrev pub ReadLeaves : Result (Unit {0}) ShelfFault → List ℕ → ℕ → ℕ → Option (List ℕ) → List ℕ → List ℕ → List ℕ → List ℕ → ℕ → Type 0
+ReadLeaves (Ok u) name before now told last last_now old new limit =
+    (now ≡ before) × (last_now ≡ last) × Told told (λ bytes. new ≡ old ++ take limit bytes)
+ReadLeaves (Err fault.Failed) name before now told last last_now old new limit =
+    Rose before now × (before ≤ now) × (last_now ≡ name) × (new ≡ old)
+ReadLeaves (Err fault.Memory) name before now told last last_now old new limit =
+    (now ≡ before) × (last_now ≡ last) × (new ≡ old)
+
+-- what was taken, with more bytes at its end
+abbrev pub appended : Option (List ℕ) → List ℕ → Option (List ℕ)
+appended None bytes = None
+appended (Some old) bytes = Some (old ++ bytes)
+
+-- what a put leaves: the count of faults and the bytes taken
+abbrev pub PutLeaves : Result ℕ Failed → List ℕ → ℕ → ℕ → Option (List ℕ) → Option (List ℕ) → Type 0
+PutLeaves (Ok n) bytes before now old new =
+    (now ≡ before) × (1 ≤ n) × (n ≤ length bytes) × (new ≡ appended old (take n bytes))
+PutLeaves (Err e) bytes before now old new = Rose before now × (before ≤ now) × (new ≡ old)
