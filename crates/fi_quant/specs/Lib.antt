@@ -1,0 +1,4 @@
+pub mod Round
+pub mod Fit
+pub mod Numbers
+pub mod Split
