@@ -1,0 +1,11 @@
+//! The grammar of source files, and the parser.
+#![tactic(auto)]
+
+ghost use Rattle.std.specs.Prelude.{List};
+ghost use Rattle.mat_token.specs.Lexeme.{Lexeme};
+ghost use Rattle.mat_parse.specs.Grammar.{IsLive, IsShallow};
+
+/// A law of the grammar: a token list that goes on to a file of depth at most 100 goes on to a file.
+pub fn shallow_is_live()
+    ensures { (ts : List Lexeme) → IsShallow ts → IsLive ts }
+{}
