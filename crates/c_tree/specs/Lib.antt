@@ -1,0 +1,15 @@
+pub mod CText
+pub mod Depth
+pub mod Interface
+pub mod Layout
+pub mod Meaning
+pub mod Names
+pub mod Outcome
+pub mod Run
+pub mod Spelling
+pub mod Texts
+pub mod Tokens
+pub mod Tree
+pub mod View
+pub mod WellFormed
+pub mod Whole
