@@ -1,0 +1,4 @@
+pub mod Equal
+pub mod Limits
+pub mod Logs
+pub mod Sums
