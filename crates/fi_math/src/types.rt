@@ -1,6 +1,6 @@
 //! The types of products, sums and differences.
 
-ghost use Rattle.std.specs.Prelude.{◌≡◌, ◌≤◌, ◌+◌, ◌||◌, ◌≤ℤ◌, ◌-ℤ◌, pos};
+ghost use Rattle.std.specs.Prelude.{◌≡◌, ◌≤◌, ◌+◌, ◌≤ℤ◌, ◌-ℤ◌, pos};
 ghost use Rattle.num_type.specs.Types.{word_limit};
 ghost use Rattle.num_type.specs.View.{type_of};
 ghost use Rattle.fi_math.specs.Full.{product_limit, full_product, full_sum, full_sum_of, aligned_word};
@@ -152,7 +152,7 @@ fn full_product_type(a: NumType, b: NumType) -> Result<NumType, NoType>
 {
     within(
         PRODUCT_WORD_MAX,
-        either(a.signed(), b.signed()),
+        a.signed() | b.signed(),
         a.word() + b.word(),
         a.fraction() + b.fraction(),
     )
@@ -162,7 +162,7 @@ fn full_product_type(a: NumType, b: NumType) -> Result<NumType, NoType>
 fn full_sum_type(a: NumType, b: NumType) -> Result<NumType, NoType>
     ensures { made_of result ≡ limited word_limit (full_sum (type_of a) (type_of b)) }
 {
-    let signed = either(a.signed(), b.signed());
+    let signed = a.signed() | b.signed();
     let fraction = a.fraction().max(b.fraction());
     let word = aligned(signed, fraction, a).max(aligned(signed, fraction, b)) + 1;
     within(WORD_MAX, signed, word, fraction)
@@ -181,13 +181,6 @@ fn aligned(signed: bool, fraction: i32, t: NumType) -> u32
     } else {
         t.word() + more
     }
-}
-
-/// Whether one of two holds.
-fn either(a: bool, b: bool) -> bool
-    ensures { result ≡ (a || b) }
-{
-    a || b
 }
 
 /// The type that the mode makes of the full one.
