@@ -2,3 +2,4 @@ pub mod Equal
 pub mod Limits
 pub mod Logs
 pub mod Sums
+pub mod Inside

@@ -67,8 +67,8 @@ fn quantise_by(t: NumType, method: Rounding, action: Overflow, z: Int, f: i32) -
     }
 }
 
-/// How far one fraction length is above another, in bits.
-fn gap(high: i32, low: i32) -> u32
+/// How far one fraction length is above another that isn't greater, in bits.
+pub fn gap(high: i32, low: i32) -> u32
     requires { low ≤ℤ high }
     ensures { high ≡ low +ℤ pos result }
 {

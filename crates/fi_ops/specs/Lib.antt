@@ -1,0 +1,4 @@
+pub mod Elements
+pub mod Operations
+pub mod View
+pub mod Parts
