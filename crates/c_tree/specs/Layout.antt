@@ -1,11 +1,13 @@
 -- The layout of a program's text: a declaration, a statement or a closing brace a line, two blanks for each brace that is open.
-use Rattle.std.specs.Prelude.{ℕ, zero, suc, Bool, true, false, List, [], ◌∷◌, ◌++◌, flat_map, codes, decimal}
+use Rattle.std.specs.Prelude.{ℕ, zero, suc, ◌+◌, Bool, true, false, List, [], ◌∷◌, ◌++◌, flat_map, codes, decimal}
 use Rattle.c_tree.specs.declared.tree.Counter.{Counter}
 use Rattle.c_tree.specs.declared.tree.CArray.{CArray}
 use Rattle.c_tree.specs.declared.tree.CWord.{CWord}
 use Rattle.c_tree.specs.declared.tree.CWord.TheVariants.{I64, U64}
 use Rattle.c_tree.specs.Tree.{Exp, Signed, Unsigned, Var, Count, Element, Cast, Truth, Neg, Binary, Choose, Test, Compare, Sta, Set, Store, If, IfElse, For, While, Break, Continue, Return, Block, Done, Next, Program}
-use Rattle.c_tree.specs.Names.{Array, Arrays, arrays_of}
+use Rattle.c_tree.specs.declared.array_names.Array.{Array}
+use Rattle.c_tree.specs.declared.array_names.Arrays.{Arrays}
+use Rattle.c_tree.specs.Names.{arrays_of}
 use Rattle.c_tree.specs.Texts.{word_text, container_text, rel_text, op_text, var_text, counter_text, macro_text, array_text, read_text, store_text, function_name}
 use Rattle.c_tree.specs.Interface.{include_line, interface_line}
 
@@ -117,12 +119,12 @@ start_line w name = codes "  " ++ word_text w ++ codes " " ++ name ++ zero_text 
 -- variables, from a number on
 abbrev pub words_text : ℕ → List CWord → List ℕ
 words_text k [] = []
-words_text k (w ∷ more) = start_line w (var_text k) ++ words_text (suc k) more
+words_text k (w ∷ more) = start_line w (var_text k) ++ words_text (k + 1) more
 
 -- so many counters, from a number on
 abbrev pub counters_text : List ℕ → ℕ → ℕ → List ℕ
 counters_text letter k zero = []
-counters_text letter k (suc n) = start_line I64 (letter ++ decimal k) ++ counters_text letter (suc k) n
+counters_text letter k (suc n) = start_line I64 (letter ++ decimal k) ++ counters_text letter (k + 1) n
 
 abbrev pub declarations_text : Program → List ℕ
 declarations_text p =

@@ -10,19 +10,9 @@ use Rattle.c_tree.specs.declared.tree.CArray.TheVariants as array
 use Rattle.c_tree.specs.declared.tree.CWord.{CWord}
 use Rattle.c_tree.specs.declared.tree.CWord.TheVariants as word
 use Rattle.c_tree.specs.declared.tree.LocalArray.{LocalArray}
+use Rattle.c_tree.specs.declared.array_names.Array.{Array}
+use Rattle.c_tree.specs.declared.array_names.Arrays.{Arrays}
 use Rattle.c_tree.specs.Tree.{Kind, Fixed, Logical, Slot, Signature, Program}
-
--- an array: its name, the type of its elements, and how many it has
-pub record Array : Type 0 where
-  pub name : List ℕ
-  pub container : Container
-  pub extent : ℕ
-
--- the arrays of a program, the parameters in their order
-pub record Arrays : Type 0 where
-  pub inputs : List Array
-  pub outputs : List Array
-  pub locals : List Array
 
 -- the narrowest container of this signedness that holds so many bits
 abbrev pub container_for : Bool → ℕ → Container
@@ -64,11 +54,14 @@ abbrev pub locals_from : ℕ → List LocalArray → List Array
 locals_from k [] = []
 locals_from k (a ∷ more) = record { name = codes "m" ++ decimal k; container = a.container; extent = a.count } ∷ locals_from (suc k) more
 
+abbrev pub slots_arrays : Fronts → List Slot → List Array
+slots_arrays f = flat_map (slot_arrays f)
+
 abbrev pub input_arrays : Signature → List Array
-input_arrays i = flat_map (slot_arrays input_fronts) i.inputs
+input_arrays i = slots_arrays input_fronts i.inputs
 
 abbrev pub output_arrays : Signature → List Array
-output_arrays i = flat_map (slot_arrays output_fronts) i.outputs
+output_arrays i = slots_arrays output_fronts i.outputs
 
 abbrev pub arrays_of : Program → Arrays
 arrays_of p = record { inputs = input_arrays p.interface; outputs = output_arrays p.interface; locals = locals_from 0 p.arrays }

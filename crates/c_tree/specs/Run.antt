@@ -3,7 +3,8 @@ use Rattle.std.specs.Prelude.{ℕ, ℤ, pos, List, [], ◌∷◌, map, replicate
 use Rattle.c_tree.specs.declared.tree.CWord.{CWord}
 use Rattle.c_tree.specs.declared.tree.CWord.TheVariants.{I64, U64}
 use Rattle.c_tree.specs.Tree.{Program}
-use Rattle.c_tree.specs.Names.{Array, arrays_of}
+use Rattle.c_tree.specs.declared.array_names.Array.{Array}
+use Rattle.c_tree.specs.Names.{arrays_of}
 use Rattle.c_tree.specs.Tokens.{body_token, closing_token}
 use Rattle.c_tree.specs.Outcome.{Outcome, Gives, PastBound, UndefinedAt}
 use Rattle.c_tree.specs.Meaning.{Word, Int64, Uint64, Cells, State, Flow, Went, Broke, Continued, Returned, run_block}

@@ -1,10 +1,12 @@
 -- The tokens of a program's function, as texts. Each function takes the tokens that follow.
-use Rattle.std.specs.Prelude.{ℕ, zero, suc, List, [], ◌∷◌, ◌++◌, codes, decimal}
+use Rattle.std.specs.Prelude.{ℕ, zero, suc, ◌+◌, List, [], ◌∷◌, ◌++◌, codes, decimal}
 use Rattle.c_tree.specs.declared.tree.Counter.{Counter}
 use Rattle.c_tree.specs.declared.tree.CWord.{CWord}
 use Rattle.c_tree.specs.declared.tree.CWord.TheVariants.{I64, U64}
 use Rattle.c_tree.specs.Tree.{Exp, Signed, Unsigned, Var, Count, Element, Cast, Truth, Neg, Binary, Choose, Test, Compare, Sta, Set, Store, If, IfElse, For, While, Break, Continue, Return, Block, Done, Next, Program}
-use Rattle.c_tree.specs.Names.{Array, Arrays, arrays_of}
+use Rattle.c_tree.specs.declared.array_names.Array.{Array}
+use Rattle.c_tree.specs.declared.array_names.Arrays.{Arrays}
+use Rattle.c_tree.specs.Names.{arrays_of}
 use Rattle.c_tree.specs.Texts.{Text, word_text, container_text, rel_text, op_text, var_text, counter_text, macro_text, array_text, read_text, store_text, function_name}
 
 abbrev pub Texts : Type 0
@@ -94,12 +96,12 @@ spell_start w name rest = word_text w ∷ name ∷ codes "=" ∷ spell_constant 
 -- variables, from a number on
 abbrev pub spell_words : ℕ → List CWord → Texts → Texts
 spell_words k [] rest = rest
-spell_words k (w ∷ more) rest = spell_start w (var_text k) (spell_words (suc k) more rest)
+spell_words k (w ∷ more) rest = spell_start w (var_text k) (spell_words (k + 1) more rest)
 
 -- so many counters, from a number on
 abbrev pub spell_counters : Text → ℕ → ℕ → Texts → Texts
 spell_counters letter k zero rest = rest
-spell_counters letter k (suc n) rest = spell_start I64 (letter ++ decimal k) (spell_counters letter (suc k) n rest)
+spell_counters letter k (suc n) rest = spell_start I64 (letter ++ decimal k) (spell_counters letter (k + 1) n rest)
 
 abbrev pub spell_declarations : Program → Texts → Texts
 spell_declarations p rest =

@@ -12,7 +12,9 @@ use Rattle.c_tree.specs.declared.tree.CRel.{CRel}
 use Rattle.c_tree.specs.declared.tree.CRel.TheVariants as rel
 use Rattle.c_tree.specs.declared.tree.COp.{COp}
 use Rattle.c_tree.specs.declared.tree.COp.TheVariants as op
-use Rattle.c_tree.specs.Names.{Array, Arrays, array_at, word_of}
+use Rattle.c_tree.specs.declared.array_names.Array.{Array}
+use Rattle.c_tree.specs.declared.array_names.Arrays.{Arrays}
+use Rattle.c_tree.specs.Names.{array_at, word_of}
 
 -- the bytes of a token
 abbrev pub Text : Type 0

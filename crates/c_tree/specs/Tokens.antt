@@ -1,7 +1,8 @@
 -- How many tokens a program has. They count from 0 at the function's first int32_t.
 use Rattle.std.specs.Prelude.{ℕ, ◌+◌, ◌-◌, ◌*◌, length}
 use Rattle.c_tree.specs.Tree.{Exp, Signed, Unsigned, Var, Count, Element, Cast, Truth, Neg, Binary, Choose, Test, Compare, Sta, Set, Store, If, IfElse, For, While, Break, Continue, Return, Block, Done, Next, Program}
-use Rattle.c_tree.specs.Names.{Arrays, arrays_of}
+use Rattle.c_tree.specs.declared.array_names.Arrays.{Arrays}
+use Rattle.c_tree.specs.Names.{arrays_of}
 
 abbrev mutual
   pub tokens : Exp → ℕ

@@ -12,7 +12,9 @@ use Rattle.c_tree.specs.declared.tree.COp.{COp}
 use Rattle.c_tree.specs.declared.tree.COp.TheVariants.{Add, Sub, Mul, And, Or, Xor, Shl, Shr}
 use Rattle.c_tree.specs.declared.tree.LocalArray.{LocalArray}
 use Rattle.c_tree.specs.Tree.{Kind, Fixed, Slot, Signature, Exp, Signed, Unsigned, Var, Count, Element, Cast, Truth, Neg, Binary, Choose, Test, Compare, Sta, Set, Store, If, IfElse, For, While, Break, Continue, Return, Block, Done, Next, Program}
-use Rattle.c_tree.specs.Names.{Array, Arrays, arrays_of, array_at, is_const, word_of, counters_of}
+use Rattle.c_tree.specs.declared.array_names.Array.{Array}
+use Rattle.c_tree.specs.declared.array_names.Arrays.{Arrays}
+use Rattle.c_tree.specs.Names.{arrays_of, array_at, is_const, word_of, counters_of}
 
 -- ---- the interface
 
