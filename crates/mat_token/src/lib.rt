@@ -10,6 +10,8 @@ mod place;
 mod rule;
 mod scan;
 mod separate;
+#[cfg(test)]
+mod tests;
 mod token;
 mod words;
 
