@@ -1,0 +1,5 @@
+pub mod Words
+pub mod Join
+pub mod Texts
+pub mod ReadUp
+pub mod Sound

@@ -200,10 +200,12 @@ abbrev pub function_end : Bool → Lang
 function_end true = keyword (codes "end") ▸ many separator
 function_end false = nothing
 
+-- what stands between `function` and the body
+abbrev pub header : List Ident → Ident → List Ident → Lang
+header outputs name inputs = header_outputs outputs ▸ op (codes "=") ▸ ident name ▸ header_inputs inputs
+
 abbrev pub function : Bool → Fun → Lang
-function ended f =
-    keyword (codes "function") ▸ header_outputs f.outputs ▸ op (codes "=") ▸ ident f.name ▸ header_inputs f.inputs
-    ▸ separator ▸ block f.body ▸ function_end ended
+function ended f = keyword (codes "function") ▸ header f.outputs f.name f.inputs ▸ separator ▸ block f.body ▸ function_end ended
 
 -- functions, all with their `end` or all without
 abbrev pub functions : Bool → List Fun → Lang

@@ -1,3 +1,5 @@
 pub mod Lang
 pub mod Spelling
 pub mod Grammar
+pub mod Words
+pub mod Machine

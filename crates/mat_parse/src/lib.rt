@@ -5,6 +5,10 @@ ghost use Rattle.std.specs.Prelude.{List};
 ghost use Rattle.mat_token.specs.Lexeme.{Lexeme};
 ghost use Rattle.mat_parse.specs.Grammar.{IsLive, IsShallow};
 
+mod word;
+
+pub use word::{Mode, Word};
+
 /// A law of the grammar: a token list that goes on to a file of depth at most 100 goes on to a file.
 pub fn shallow_is_live()
     ensures { (ts : List Lexeme) → IsShallow ts → IsLive ts }
