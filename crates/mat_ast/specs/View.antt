@@ -1,5 +1,5 @@
 -- What a tree of the code stands for.
-use Rattle.std.specs.Prelude.{ℕ, List, [], ◌∷◌, map, Option, Some, None}
+use Rattle.std.specs.Prelude.{List, [], ◌∷◌, map, Option, Some, None}
 use Rattle.fic_base.specs.declared.place.Place.{Place}
 use Rattle.mat_ast.specs.declared.tree.Expr.{Expr, fold-Expr}
 use Rattle.mat_ast.specs.declared.tree.Arg.{Arg, fold-Arg}
@@ -11,7 +11,8 @@ use Rattle.mat_ast.specs.declared.tree.Row as code
 use Rattle.mat_ast.specs.declared.tree.Row.{fold-Row}
 use Rattle.mat_ast.specs.declared.tree.Stmt.{Stmt, fold-Stmt}
 use Rattle.mat_ast.specs.declared.tree.Stmt.{Stmt-F}
-use Rattle.mat_ast.specs.declared.tree.Arm.{Arm-F}
+use Rattle.mat_ast.specs.declared.tree.Arm.{Arm-F, fold-Arm}
+use Rattle.mat_ast.specs.declared.tree.Arm as arm
 use Rattle.mat_ast.specs.declared.tree.Func.{Func}
 use Rattle.mat_ast.specs.Tree.{Exp, Number, Words, Name, Apply, End, Unary, Binary, Post, Range, RangeBy, Paren, Matrix, Args, NoArgs, Whole, Item, Row, RowEnd, Cell, Rows, NoRows, RowOn, Sta, Assign, Store, Multi, IfOnly, IfElse, ForEach, WhileTrue, BreakOff, GoOn, Arms, NoArms, Arm, Block, Done, Next, Fun}
 
@@ -105,6 +106,12 @@ stmt_view = fold-Stmt Sta Seen stmt_step arm_step
 
 abbrev pub block_view : List Stmt → Block
 block_view body = block_of (map stmt_view body)
+
+abbrev pub arm_view : arm.Arm → Seen
+arm_view = fold-Arm Sta Seen stmt_step arm_step
+
+abbrev pub arms_view : List arm.Arm → Arms
+arms_view arms = arms_of (map arm_view arms)
 
 abbrev pub func_view : Func → Fun
 func_view f = record { name = f.name; inputs = f.inputs; outputs = f.outputs; body = block_view f.body }

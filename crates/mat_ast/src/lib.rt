@@ -8,5 +8,8 @@ mod tree;
 
 pub use depth::is_within;
 pub use file::File;
-pub use make::{apply, assign, binary, if_only, one_row, unary};
+pub use make::{
+    apply, assign, binary, break_off, end, for_each, go_on, if_arms, if_else, if_only, matrix,
+    multi, name, number, one_row, paren, post, range, range_by, store, unary, while_true, words,
+};
 pub use tree::{Arg, Arm, BinOp, Expr, ExprKind, Func, Ident, PostOp, Row, Stmt, UnOp};
