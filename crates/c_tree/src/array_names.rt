@@ -97,10 +97,10 @@ fn push_slot(
     let container = container_of(slot.kind);
     let extent = slot.shape.elements();
     if is_complex(slot.kind) {
-        found.push(make_array(alloc, re, slot.name.as_str(), container, extent)?)?;
-        found.push(make_array(alloc, im, slot.name.as_str(), container, extent)?)?;
+        found.push(make_array(alloc, re, slot.name.as_bytes(), container, extent)?)?;
+        found.push(make_array(alloc, im, slot.name.as_bytes(), container, extent)?)?;
     } else {
-        found.push(make_array(alloc, plain, slot.name.as_str(), container, extent)?)?;
+        found.push(make_array(alloc, plain, slot.name.as_bytes(), container, extent)?)?;
     }
     Ok(())
 }
@@ -108,16 +108,16 @@ fn push_slot(
 fn make_array(
     alloc: Global,
     front: &str,
-    name: &str,
+    name: &[u8],
     container: Container,
     extent: u32,
 ) -> Result<Array, Memory>
     ensures { IfOk result (λ a. a ≡ record { name = front.now ++ name.now; container = container; extent = extent }) }
 {
-    let mut text = String::from_str(alloc, front)?;
-    text.push_str(name)?;
+    let mut text = Vec::from_slice(alloc, front.as_bytes())?;
+    text.extend_from_slice(name)?;
     Ok(Array {
-        name: Text::from_string(text),
+        name: Text::from_vec(text),
         container,
         extent,
     })
@@ -147,7 +147,7 @@ fn local_arrays(alloc: Global, arrays: &[LocalArray]) -> Result<Items<Array>, Me
     let mut found = Items::new(alloc);
     for (k, local) in arrays.iter().enumerate() {
         let number = k.to_string(alloc)?;
-        found.push(make_array(alloc, "m", number.as_str(), local.container, local.count)?)?;
+        found.push(make_array(alloc, "m", number.as_bytes(), local.container, local.count)?)?;
     }
     Ok(found)
 }

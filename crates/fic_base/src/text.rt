@@ -35,6 +35,13 @@ impl Text {
         Ok(Text { bytes })
     }
 
+    /// A copy of a string's bytes. Want of memory is its only refusal.
+    pub fn from_str(alloc: Global, text: &str) -> Result<Text, AllocError>
+        ensures { IfOk result (λ t. t ≡ text.now) }
+    {
+        Text::from_bytes(alloc, text.as_bytes())
+    }
+
     /// The bytes.
     pub fn as_bytes(&self) -> &[u8]
         ensures { result.now ≡ self.now }

@@ -83,10 +83,7 @@ fn hex_digit(d: u8) -> u8
 fn hex(alloc: Global, b: u8) -> Result<Text, AllocError>
     ensures { IfOk result (λ t. t ≡ hex b) }
 {
-    let mut text = String::new(alloc);
-    text.push(char::from(hex_digit(b / 16)))?;
-    text.push(char::from(hex_digit(b % 16)))?;
-    Ok(Text::from_string(text))
+    Text::from_bytes(alloc, &[hex_digit(b / 16), hex_digit(b % 16)])
 }
 
 /// What the refusal of a rule that gives no piece shows.

@@ -33,9 +33,9 @@ fn shown(alloc: Global, source: &str) -> Result<Vec<u8>, AllocError> {
             };
             let line = refusal.place.line;
             let col = refusal.place.col;
-            let text = refusal.shown.as_str();
-            let written = format!(in alloc; "{line}:{col} {code} {text}")?;
+            let written = format!(in alloc; "{line}:{col} {code} ")?;
             out.extend_from_slice(written.as_bytes())?;
+            out.extend_from_slice(refusal.shown.as_bytes())?;
         }
         Ok(list) => {
             for token in list.tokens() {
@@ -110,7 +110,7 @@ fn limits(rt: HostRuntime) -> Result<(), Fail> {
     let blanks = vec![in rt.alloc(); b' '; 1_048_577]?;
     match tokens(rt.alloc(), &blanks) {
         Err(Stop::Refused(refusal)) => {
-            assert_eq!(rt; refusal.shown.as_str(), "1048576");
+            assert_eq!(rt; refusal.shown.as_bytes(), b"1048576".as_slice());
             assert_eq!(rt; refusal.place, Place::START);
         }
         _ => assert!(rt; false),
