@@ -1,5 +1,8 @@
 //! Want of memory, and refusals beside it.
 
+ghost use Rattle.std.specs.Prelude.{◌≡◌};
+ghost use Rattle.num_type.specs.declared.memory.Stop.TheVariants.{Memory};
+
 use std::alloc::{AllocError, AllocFailed};
 
 /// Want of memory.
@@ -28,13 +31,25 @@ pub enum Stop<R> {
 }
 
 impl<R: Drop> From<Memory> for Stop<R> {
+    ghost from_gives = { λ _ e. e ≡ Memory };
+
     fn from(_: Memory) -> Self {
         Stop::Memory
     }
 }
 
 impl<R: Drop> From<AllocError> for Stop<R> {
+    ghost from_gives = { λ _ e. e ≡ Memory };
+
     fn from(_: AllocError) -> Self {
+        Stop::Memory
+    }
+}
+
+impl<T: Drop, R: Drop> From<AllocFailed<T>> for Stop<R> {
+    ghost from_gives = { λ _ e. e ≡ Memory };
+
+    fn from(_: AllocFailed<T>) -> Self {
         Stop::Memory
     }
 }
