@@ -1,13 +1,15 @@
 -- What a type that was made says of the limits.
-use Rattle.std.proofs.Common.{ℕ, ℤ, ◌≡◌, refl, ◌≤◌, Bool, true, false, arith}
+use Rattle.std.proofs.Common.{ℕ, ℤ, ◌≡◌, refl, sym, ◌∙◌, ◌≤◌, Bool, true, false, arith}
 use Rattle.std.specs.Prelude.{◌≤ℤ◌, nat_lt, int_lt, ◌||◌, if◌then◌else◌}
 use Rattle.std.proofs.lemmas.Int.{ints}
 use Rattle.std.proofs.lemmas.Bool.{ltb-false, or_parts}
 use Rattle.num_type.specs.Types.{NumericType, fraction_least, fraction_most, word_limit}
 use Rattle.fi_math.specs.declared.fimath.Fimath.{Fimath}
+use Rattle.fi_math.specs.declared.fimath.Mode.{Mode}
+use Rattle.fi_math.specs.declared.fimath.Mode.TheVariants.{FullPrecision}
 use Rattle.fi_math.specs.Full.{product_limit, full_product, full_sum, full_difference}
 use Rattle.fi_math.specs.Made.{Made, Is, Wide, Out, limited, and_then}
-use Rattle.fi_math.specs.Rules.{product_by, sum_by, product_made, add_made, sub_made}
+use Rattle.fi_math.specs.Rules.{mode_type, product_by, sum_by, product_made, add_made, sub_made}
 
 -- a type within the limits, and the type that was asked for
 pub record IsInside (limit : ℕ) (t made : NumericType) : Type 0 where
@@ -74,3 +76,36 @@ difference_inside m a b made e =
     let f = first_is (limited word_limit (full_difference a b)) (sum_by m) made e in
     let i = limited_is word_limit (full_difference a b) f.0 f.1 in
     record { same = refl; one_bit = i.one_bit; bits = i.bits; least = i.least; most = i.most }
+
+-- ---- FullPrecision
+
+full_mode : (mode : Mode) (w : ℕ) (f : ℤ) (t : NumericType) → mode ≡ FullPrecision → mode_type mode w f t ≡ t
+unfolding mode_type
+full_mode mode w f t e = rw e refl
+
+-- under FullPrecision the type of a product is the full one
+pub product_full : (m : Fimath) (a b made : NumericType) → m.product_mode ≡ FullPrecision → product_made m a b ≡ Is made → made ≡ full_product a b
+unfolding product_made product_by
+product_full m a b made h e =
+    let f = first_is (limited product_limit (full_product a b)) (product_by m) made e in
+    let i = limited_is product_limit (full_product a b) f.0 f.1 in
+    let j = limited_is word_limit (mode_type m.product_mode m.product_word m.product_fraction f.0) made f.2 in
+    sym (i.same ∙ sym (full_mode m.product_mode m.product_word m.product_fraction f.0 h) ∙ j.same)
+
+-- so is that of a sum
+pub sum_full : (m : Fimath) (a b made : NumericType) → m.sum_mode ≡ FullPrecision → add_made m a b ≡ Is made → made ≡ full_sum a b
+unfolding add_made sum_by
+sum_full m a b made h e =
+    let f = first_is (limited word_limit (full_sum a b)) (sum_by m) made e in
+    let i = limited_is word_limit (full_sum a b) f.0 f.1 in
+    let j = limited_is word_limit (mode_type m.sum_mode m.sum_word m.sum_fraction f.0) made f.2 in
+    sym (i.same ∙ sym (full_mode m.sum_mode m.sum_word m.sum_fraction f.0 h) ∙ j.same)
+
+-- and that of a difference
+pub difference_full : (m : Fimath) (a b made : NumericType) → m.sum_mode ≡ FullPrecision → sub_made m a b ≡ Is made → made ≡ full_difference a b
+unfolding sub_made sum_by
+difference_full m a b made h e =
+    let f = first_is (limited word_limit (full_difference a b)) (sum_by m) made e in
+    let i = limited_is word_limit (full_difference a b) f.0 f.1 in
+    let j = limited_is word_limit (mode_type m.sum_mode m.sum_word m.sum_fraction f.0) made f.2 in
+    sym (i.same ∙ sym (full_mode m.sum_mode m.sum_word m.sum_fraction f.0 h) ∙ j.same)

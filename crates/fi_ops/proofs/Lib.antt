@@ -1,3 +1,5 @@
 pub mod Sizes
 pub mod Orders
 pub mod Taken
+pub mod Ranges
+pub mod Full

@@ -2,6 +2,7 @@
 #![tactic(auto)]
 
 mod elem;
+mod laws;
 mod ordering;
 mod products;
 mod signs;
@@ -9,6 +10,7 @@ mod sums;
 mod whole;
 
 pub use elem::Elem;
+pub use laws::{full_differences_are_exact, full_products_are_exact, full_sums_are_exact};
 pub use ordering::compare;
 pub use products::mul;
 pub use signs::{abs, neg};

@@ -191,7 +191,7 @@ fitted_inside a t z h = fit_inside a t z (fitted a t z) (fitted_is a t z h)
 
 -- ---- quantising
 
-scaled_up : (m : Rounding) (z d : ℤ) (n : ℕ) → d ≡ pos n → scaled m z d ≡ z *ℤ pos (2 ^ n)
+pub scaled_up : (m : Rounding) (z d : ℤ) (n : ℕ) → d ≡ pos n → scaled m z d ≡ z *ℤ pos (2 ^ n)
 unfolding scaled
 scaled_up m z d n e = rw e refl
 

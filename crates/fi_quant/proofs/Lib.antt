@@ -5,3 +5,4 @@ pub mod Splits
 pub mod Fits
 pub mod Once
 pub mod Exist
+pub mod Exact
