@@ -4,6 +4,8 @@
 mod fimath;
 mod governing;
 mod laws;
+#[cfg(test)]
+mod tables;
 mod types;
 
 pub use fimath::{Fimath, Mode};

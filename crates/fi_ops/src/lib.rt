@@ -7,6 +7,8 @@ mod ordering;
 mod products;
 mod signs;
 mod sums;
+#[cfg(test)]
+mod tables;
 mod whole;
 
 pub use elem::Elem;

@@ -1,0 +1,231 @@
+//! Tables of worked operations.
+
+use super::*;
+use fi_math::{Fimath, Mode, add_type, product_type, sub_type};
+use fi_quant::fit;
+use num_type::{Int, NumType, Overflow, Rounding};
+use std::cmp::Ordering;
+
+/// A type's signedness, word length and fraction length, and a stored integer's sign and size.
+type Parts = (bool, u32, i32, bool, u128);
+
+/// An operation.
+#[derive(Clone, Copy)]
+enum Call {
+    Add,
+    Sub,
+    Mul,
+    Neg,
+    Abs,
+}
+
+/// The element with these parts, whose stored integer is in range.
+fn element(parts: Parts) -> Option<Elem> {
+    match NumType::make(parts.0, parts.1, parts.2) {
+        Some(num) => Some(Elem {
+            num,
+            z: fit(Overflow::Saturate, num, Int::of(parts.3, parts.4)),
+        }),
+        None => None,
+    }
+}
+
+/// Whether an element has these parts.
+fn is(e: Elem, want: Parts) -> bool {
+    let num = e.num;
+    let z = e.z;
+    num.signed() == want.0
+        && num.word() == want.1
+        && num.fraction() == want.2
+        && z.is_negative() == want.3
+        && z.magnitude() == want.4
+}
+
+/// Whether an operation gives what a table states.
+fn gives(m: &Fimath, call: Call, a: Parts, b: Parts, want: Parts) -> bool {
+    match (element(a), element(b)) {
+        (Some(a), Some(b)) => match call {
+            Call::Add => adds(m, a, b, want),
+            Call::Sub => subtracts(m, a, b, want),
+            Call::Mul => multiplies(m, a, b, want),
+            Call::Neg => is(neg(m, a), want),
+            Call::Abs => is(abs(m, a), want),
+        },
+        _ => false,
+    }
+}
+
+fn adds(m: &Fimath, a: Elem, b: Elem, want: Parts) -> bool {
+    match add_type(m, a.num, b.num) {
+        Ok(t) => is(add(m, t, a, b), want),
+        Err(_) => false,
+    }
+}
+
+fn subtracts(m: &Fimath, a: Elem, b: Elem, want: Parts) -> bool {
+    match sub_type(m, a.num, b.num) {
+        Ok(t) => is(sub(m, t, a, b), want),
+        Err(_) => false,
+    }
+}
+
+fn multiplies(m: &Fimath, a: Elem, b: Elem, want: Parts) -> bool {
+    match product_type(m, a.num, b.num) {
+        Ok(t) => is(mul(m, t, a, b), want),
+        Err(_) => false,
+    }
+}
+
+/// The default fimath with another overflow action.
+fn usual_with(overflow: Overflow) -> Fimath {
+    let usual = Fimath::usual();
+    Fimath {
+        rounding: usual.rounding,
+        overflow,
+        product_mode: usual.product_mode,
+        product_word: usual.product_word,
+        product_fraction: usual.product_fraction,
+        sum_mode: usual.sum_mode,
+        sum_word: usual.sum_word,
+        sum_fraction: usual.sum_fraction,
+        cast_before_sum: usual.cast_before_sum,
+    }
+}
+
+/// Floor, and sums of eight bits without fraction.
+fn floor_to_eight(cast_before_sum: bool) -> Fimath {
+    let usual = Fimath::usual();
+    Fimath {
+        rounding: Rounding::Floor,
+        overflow: usual.overflow,
+        product_mode: usual.product_mode,
+        product_word: usual.product_word,
+        product_fraction: usual.product_fraction,
+        sum_mode: Mode::SpecifyPrecision,
+        sum_word: 8,
+        sum_fraction: 0,
+        cast_before_sum,
+    }
+}
+
+#[test]
+fn saturates(rt: HostRuntime) {
+    let m = Fimath::usual();
+    let low = (true, 8, 0, true, 128);
+    let least = (true, 64, 0, true, 9223372036854775808);
+    let three = (false, 8, 0, false, 3);
+    let five = (false, 8, 0, false, 5);
+    for (call, a, b, want) in [
+        (Call::Neg, low, low, (true, 8, 0, false, 127)),
+        (
+            Call::Neg,
+            least,
+            least,
+            (true, 64, 0, false, 9223372036854775807),
+        ),
+        (Call::Neg, three, three, (false, 8, 0, false, 0)),
+        (Call::Abs, low, low, (true, 8, 0, false, 127)),
+        (Call::Sub, three, five, (false, 9, 0, false, 0)),
+    ] {
+        assert!(rt; gives(&m, call, a, b, want));
+    }
+}
+
+#[test]
+fn wraps(rt: HostRuntime) {
+    let m = usual_with(Overflow::Wrap);
+    let low = (true, 8, 0, true, 128);
+    let three = (false, 8, 0, false, 3);
+    let five = (false, 8, 0, false, 5);
+    for (call, a, b, want) in [
+        (Call::Neg, low, low, low),
+        (Call::Abs, low, low, low),
+        (Call::Neg, three, three, (false, 8, 0, false, 253)),
+        (Call::Sub, three, five, (false, 9, 0, false, 510)),
+    ] {
+        assert!(rt; gives(&m, call, a, b, want));
+    }
+}
+
+#[test]
+fn multiplies_and_adds(rt: HostRuntime) {
+    let m = Fimath::usual();
+    let a = (true, 8, 4, false, 24);
+    let b = (true, 8, 4, true, 32);
+    let product = (true, 16, 8, true, 768);
+    let two = (true, 16, 13, false, 16384);
+    let half = (true, 16, 15, false, 16384);
+    assert!(rt; gives(&m, Call::Mul, a, b, product));
+    assert!(rt; gives(&m, Call::Add, product, a, (true, 17, 8, true, 384)));
+    assert!(rt; gives(&m, Call::Mul, two, half, (true, 32, 28, false, 268435456)));
+    assert!(rt; gives(&m, Call::Sub, a, b, (true, 9, 4, false, 56)));
+}
+
+#[test]
+fn casts_before_sum(rt: HostRuntime) {
+    let half = (true, 8, 4, false, 8);
+    assert!(rt;
+        gives(
+            &floor_to_eight(true),
+            Call::Add,
+            half,
+            half,
+            (true, 8, 0, false, 0)
+        )
+    );
+    assert!(rt;
+        gives(
+            &floor_to_eight(false),
+            Call::Add,
+            half,
+            half,
+            (true, 8, 0, false, 1)
+        )
+    );
+}
+
+#[test]
+fn compares_values(rt: HostRuntime) {
+    for (a, b, want) in [
+        (
+            (true, 8, 4, false, 8),
+            (false, 8, 1, false, 1),
+            Ordering::Equal,
+        ),
+        (
+            (true, 8, 0, true, 1),
+            (false, 8, 0, false, 255),
+            Ordering::Less,
+        ),
+        (
+            (true, 8, -256, false, 1),
+            (true, 8, 256, false, 127),
+            Ordering::Greater,
+        ),
+        (
+            (true, 8, -256, true, 1),
+            (true, 8, 256, true, 128),
+            Ordering::Less,
+        ),
+        ((true, 8, 4, true, 9), (true, 8, 1, true, 1), Ordering::Less),
+        (
+            (true, 8, 4, true, 8),
+            (true, 8, 1, true, 1),
+            Ordering::Equal,
+        ),
+        (
+            (false, 8, 256, false, 0),
+            (true, 8, -256, false, 0),
+            Ordering::Equal,
+        ),
+    ] {
+        assert!(rt; in_order(a, b, want));
+    }
+}
+
+fn in_order(a: Parts, b: Parts, want: Ordering) -> bool {
+    match (element(a), element(b)) {
+        (Some(a), Some(b)) => compare(a, b) == want,
+        _ => false,
+    }
+}
