@@ -1,5 +1,5 @@
 -- What the private parts of rounding and fitting say.
-use Rattle.std.specs.Prelude.{ℕ, ℤ, pos, ◌+ℤ◌, ◌*ℤ◌, Bool, true, false, not, ◌+◌, ◌*◌, ◌^◌, ◌<◌, ◌≡◌}
+use Rattle.std.specs.Prelude.{ℕ, ℤ, pos, ◌+ℤ◌, ◌*ℤ◌, Bool, true, false, not, ◌&&◌, ◌+◌, ◌*◌, ◌^◌, ◌<◌, ◌≡◌}
 use Rattle.num_type.specs.declared.methods.Rounding.{Rounding}
 use Rattle.num_type.specs.declared.methods.Rounding.TheVariants.{Ceiling, Floor, Zero, Nearest, Round, Convergent}
 use Rattle.fi_quant.specs.declared.rounding.Rest.{Rest}
@@ -18,22 +18,28 @@ pub record IsSplit (n k whole : ℕ) (rest : Rest) : Type 0 where
   pub sum : n ≡ whole * 2 ^ k + left
   pub part : IsRest rest left (2 ^ k)
 
+-- whether anything is left over
+abbrev pub leaves_of : Rest → Bool
+leaves_of Nothing = false
+leaves_of BelowHalf = true
+leaves_of Half = true
+leaves_of AboveHalf = true
+
+-- whether more than half is left over, or just half where a tie moves
+abbrev pub past_half_of : Rest → Bool → Bool
+past_half_of Nothing tie = false
+past_half_of BelowHalf tie = false
+past_half_of Half tie = tie
+past_half_of AboveHalf tie = true
+
 -- whether the method moves a size away from 0
 abbrev pub rounds_up_of : Rounding → Bool → Bool → Rest → Bool
-rounds_up_of Ceiling neg odd Nothing = false
-rounds_up_of Ceiling neg odd _ = not neg
-rounds_up_of Floor neg odd Nothing = false
-rounds_up_of Floor neg odd _ = neg
-rounds_up_of Zero neg odd _ = false
-rounds_up_of Nearest neg odd Half = not neg
-rounds_up_of Nearest neg odd AboveHalf = true
-rounds_up_of Nearest neg odd _ = false
-rounds_up_of Round neg odd Half = true
-rounds_up_of Round neg odd AboveHalf = true
-rounds_up_of Round neg odd _ = false
-rounds_up_of Convergent neg odd Half = odd
-rounds_up_of Convergent neg odd AboveHalf = true
-rounds_up_of Convergent neg odd _ = false
+rounds_up_of Ceiling neg odd rest = leaves_of rest && not neg
+rounds_up_of Floor neg odd rest = leaves_of rest && neg
+rounds_up_of Zero neg odd rest = false
+rounds_up_of Nearest neg odd rest = past_half_of rest (not neg)
+rounds_up_of Round neg odd rest = past_half_of rest true
+rounds_up_of Convergent neg odd rest = past_half_of rest odd
 
 -- whether c is above 0
 abbrev pub IsOver : Bool → ℕ → Type 0

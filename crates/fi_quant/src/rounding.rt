@@ -3,7 +3,7 @@
 ghost use Rattle.std.specs.Prelude.{◌≡◌, ◌+◌, ◌*◌, ◌^◌, ◌<◌, ◌==◌, ◌%◌, ℕ};
 ghost use Rattle.fi_quant.specs.Round.{IsRounded};
 ghost use Rattle.fi_quant.specs.Numbers.{rounded};
-ghost use Rattle.fi_quant.specs.Split.{IsSplit, rounds_up_of};
+ghost use Rattle.fi_quant.specs.Split.{IsSplit, leaves_of, past_half_of, rounds_up_of};
 
 use num_type::{Int, Rounding};
 
@@ -48,27 +48,34 @@ fn round_size(method: Rounding, z: Int, k: u32) -> Int
 fn rounds_up(method: Rounding, neg: bool, odd: bool, rest: Rest) -> bool
     ensures { result ≡ rounds_up_of method neg odd rest }
 {
+    match method {
+        Rounding::Ceiling => leaves(rest) & !neg,
+        Rounding::Floor => leaves(rest) & neg,
+        Rounding::Zero => false,
+        Rounding::Nearest => past_half(rest, !neg),
+        Rounding::Round => past_half(rest, true),
+        Rounding::Convergent => past_half(rest, odd),
+    }
+}
+
+/// Whether anything is left over.
+fn leaves(rest: Rest) -> bool
+    ensures { result ≡ leaves_of rest }
+{
     match rest {
         Rest::Nothing => false,
-        Rest::BelowHalf => match method {
-            Rounding::Ceiling => !neg,
-            Rounding::Floor => neg,
-            _ => false,
-        },
-        Rest::Half => match method {
-            Rounding::Ceiling => !neg,
-            Rounding::Floor => neg,
-            Rounding::Zero => false,
-            Rounding::Nearest => !neg,
-            Rounding::Round => true,
-            Rounding::Convergent => odd,
-        },
-        Rest::AboveHalf => match method {
-            Rounding::Ceiling => !neg,
-            Rounding::Floor => neg,
-            Rounding::Zero => false,
-            _ => true,
-        },
+        Rest::BelowHalf | Rest::Half | Rest::AboveHalf => true,
+    }
+}
+
+/// Whether more than half is left over, or just half where a tie moves.
+fn past_half(rest: Rest, tie: bool) -> bool
+    ensures { result ≡ past_half_of rest tie }
+{
+    match rest {
+        Rest::Nothing | Rest::BelowHalf => false,
+        Rest::Half => tie,
+        Rest::AboveHalf => true,
     }
 }
 
