@@ -2,14 +2,14 @@
 use Rattle.std.proofs.Common.{ℕ, ℤ, ◌≡◌, refl, sym, ◌∙◌, ◌≤◌, Bool, true, false, arith}
 use Rattle.std.specs.Prelude.{◌≤ℤ◌, nat_lt, int_lt, ◌||◌, if◌then◌else◌}
 use Rattle.std.proofs.lemmas.Int.{ints}
-use Rattle.std.proofs.lemmas.Bool.{ltb-false, or_parts}
+use Rattle.std.proofs.lemmas.Bool.{ltb-false, or_parts, cond-false}
 use Rattle.num_type.specs.Types.{NumericType, fraction_least, fraction_most, word_limit}
 use Rattle.fi_math.specs.declared.fimath.Fimath.{Fimath}
 use Rattle.fi_math.specs.declared.fimath.Mode.{Mode}
 use Rattle.fi_math.specs.declared.fimath.Mode.TheVariants.{FullPrecision}
 use Rattle.fi_math.specs.Full.{product_limit, full_product, full_sum, full_difference}
 use Rattle.fi_math.specs.Made.{Made, Is, Wide, Out, limited, and_then}
-use Rattle.fi_math.specs.Rules.{mode_type, product_by, sum_by, product_made, add_made, sub_made}
+use Rattle.fi_math.specs.Rules.{mode_type, stepped, product_by, sum_by, product_made, add_made, sub_made}
 
 -- a type within the limits, and the type that was asked for
 pub record IsInside (limit : ℕ) (t made : NumericType) : Type 0 where
@@ -75,6 +75,14 @@ unfolding sub_made
 difference_inside m a b made e =
     let f = first_is (limited word_limit (full_difference a b)) (sum_by m) made e in
     let i = limited_is word_limit (full_difference a b) f.0 f.1 in
+    record { same = refl; one_bit = i.one_bit; bits = i.bits; least = i.least; most = i.most }
+
+-- that of a step of a sum, without CastBeforeSum
+pub step_inside : (m : Fimath) (a t made : NumericType) → m.cast_before_sum ≡ false → stepped m a t ≡ Is made → IsInside word_limit (full_sum t a) (full_sum t a)
+unfolding stepped
+step_inside m a t made c e =
+    let f = first_is (limited word_limit (full_sum t a)) (λ _. Is t) made (sym (cond-false m.cast_before_sum (Is t) (and_then (limited word_limit (full_sum t a)) (λ _. Is t)) c) ∙ e) in
+    let i = limited_is word_limit (full_sum t a) f.0 f.1 in
     record { same = refl; one_bit = i.one_bit; bits = i.bits; least = i.least; most = i.most }
 
 -- ---- FullPrecision

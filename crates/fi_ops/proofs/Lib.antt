@@ -3,3 +3,4 @@ pub mod Orders
 pub mod Taken
 pub mod Ranges
 pub mod Full
+pub mod Parts

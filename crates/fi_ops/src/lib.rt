@@ -1,9 +1,11 @@
 //! Operations on elements of fixed-point arrays.
 #![tactic(auto)]
 
+mod complex;
 mod elem;
 mod laws;
 mod ordering;
+mod pair;
 mod products;
 mod signs;
 mod sums;
@@ -11,9 +13,11 @@ mod sums;
 mod tables;
 mod whole;
 
+pub use complex::{cadd, cmul, conj, csub};
 pub use elem::Elem;
 pub use laws::{full_differences_are_exact, full_products_are_exact, full_sums_are_exact};
 pub use ordering::compare;
+pub use pair::Pair;
 pub use products::mul;
 pub use signs::{abs, neg};
-pub use sums::{add, sub};
+pub use sums::{accumulate, add, sub};

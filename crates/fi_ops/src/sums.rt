@@ -1,13 +1,13 @@
 //! Sums and differences of elements.
 
-ghost use Rattle.std.specs.Prelude.{◌≡◌, ◌≤◌, ◌<◌, ◌+◌, ◌^◌, ◌+ℤ◌, ◌-ℤ◌, ◌≤ℤ◌, ℤ, nat_abs};
+ghost use Rattle.std.specs.Prelude.{◌≡◌, ◌≤◌, ◌<◌, ◌+◌, ◌^◌, ◌+ℤ◌, ◌-ℤ◌, ◌≤ℤ◌, ℤ, nat_abs, false};
 ghost use Rattle.std.specs.Int.{int_max};
 ghost use Rattle.num_type.specs.Types.{IsInRange, word_limit};
 ghost use Rattle.num_type.specs.View.{type_of};
 ghost use Rattle.fi_quant.specs.Numbers.{fitted};
 ghost use Rattle.fi_math.specs.Full.{full_sum};
 ghost use Rattle.fi_math.specs.Made.{Is};
-ghost use Rattle.fi_math.specs.Rules.{add_made, sub_made};
+ghost use Rattle.fi_math.specs.Rules.{add_made, sub_made, stepped};
 ghost use Rattle.fi_ops.specs.Operations.{common, aligned, taken, joined, summed, subtracted};
 ghost use Rattle.fi_ops.specs.Parts.{plus_or_minus};
 ghost use Rattle.fi_ops.specs.View.{element_of};
@@ -40,9 +40,21 @@ pub fn sub(m: &Fimath, t: NumType, a: Elem, b: Elem) -> Elem
     join(m, t, a, b, true)
 }
 
-/// The sum, or the difference where `minus` is set.
+/// One step of an accumulation: `acc + a` by the rule of sums, in the type `t` of `acc`, which `sum_type` gives for addends of the
+/// type of `a`.
+pub fn accumulate(m: &Fimath, t: NumType, acc: Elem, a: Elem) -> Elem
+    requires kept { acc.num ≡ t }
+    requires step { stepped m.now (type_of a.num) (type_of t) ≡ Is (type_of t) }
+    ensures num { result.num ≡ t }
+    ensures value { result.z ≡ summed m.now (type_of t) (element_of acc) (element_of a) }
+    ensures inside { IsInRange (type_of t) result.z }
+{
+    join(m, t, acc, a, false)
+}
+
+/// The sum, or the difference where `minus` is set. An exact sum needs a full type within the limits.
 fn join(m: &Fimath, t: NumType, a: Elem, b: Elem, minus: bool) -> Elem
-    requires { (full_sum (type_of a.num) (type_of b.num)).word ≤ word_limit }
+    requires { m.now.cast_before_sum ≡ false → (full_sum (type_of a.num) (type_of b.num)).word ≤ word_limit }
     ensures num { result.num ≡ t }
     ensures value { result.z ≡ joined (plus_or_minus minus) m.now (type_of t) (element_of a) (element_of b) }
     ensures inside { IsInRange (type_of t) result.z }

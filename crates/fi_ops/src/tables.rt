@@ -1,7 +1,7 @@
 //! Tables of worked operations.
 
 use super::*;
-use fi_math::{Fimath, Mode, add_type, product_type, sub_type};
+use fi_math::{Fimath, Mode, add_type, complex_product_type, product_type, sub_type, sum_type};
 use fi_quant::fit;
 use num_type::{Int, NumType, Overflow, Rounding};
 use std::cmp::Ordering;
@@ -227,5 +227,81 @@ fn in_order(a: Parts, b: Parts, want: Ordering) -> bool {
     match (element(a), element(b)) {
         (Some(a), Some(b)) => compare(a, b) == want,
         _ => false,
+    }
+}
+
+/// Whether a complex element has this type and these parts.
+fn is_pair(e: Pair, word: u32, re: (bool, u128), im: (bool, u128)) -> bool {
+    let num = e.num;
+    let real = e.re;
+    let imaginary = e.im;
+    num.signed()
+        && num.word() == word
+        && num.fraction() == 0
+        && real.is_negative() == re.0
+        && real.magnitude() == re.1
+        && imaginary.is_negative() == im.0
+        && imaginary.magnitude() == im.1
+}
+
+/// The complex element of a type with these parts, which are in range.
+fn pair(num: NumType, re: Int, im: Int) -> Pair {
+    Pair {
+        num,
+        re: fit(Overflow::Saturate, num, re),
+        im: fit(Overflow::Saturate, num, im),
+    }
+}
+
+#[test]
+fn multiplies_complex(rt: HostRuntime) {
+    let m = Fimath::usual();
+    if let Some(num) = NumType::make(true, 8, 0) {
+        let a = pair(num, Int::of(false, 1), Int::of(false, 2));
+        let b = pair(num, Int::of(false, 3), Int::of(true, 1));
+        match complex_product_type(&m, num, num) {
+            Ok(t) => assert!(rt; is_pair(cmul(&m, t, a, b), 17, (false, 5), (false, 5))),
+            Err(_) => assert!(rt; false),
+        }
+    } else {
+        assert!(rt; false);
+    }
+}
+
+#[test]
+fn adds_complex(rt: HostRuntime) {
+    let m = Fimath::usual();
+    if let Some(num) = NumType::make(true, 8, 0) {
+        let a = pair(num, Int::of(false, 100), Int::of(true, 128));
+        let b = pair(num, Int::of(true, 100), Int::of(true, 100));
+        match add_type(&m, num, num) {
+            Ok(t) => assert!(rt; is_pair(cadd(&m, t, a, b), 9, (false, 0), (true, 228))),
+            Err(_) => assert!(rt; false),
+        }
+        match sub_type(&m, num, num) {
+            Ok(t) => assert!(rt; is_pair(csub(&m, t, a, b), 9, (false, 200), (true, 28))),
+            Err(_) => assert!(rt; false),
+        }
+        assert!(rt; is_pair(conj(&m, a), 8, (false, 100), (false, 127)));
+    } else {
+        assert!(rt; false);
+    }
+}
+
+#[test]
+fn accumulates(rt: HostRuntime) {
+    let m = Fimath::usual();
+    match element((true, 8, 0, true, 128)) {
+        Some(a) => match sum_type(&m, a.num, 4) {
+            Ok(t) => {
+                let start = Elem {
+                    num: t,
+                    z: fit(Overflow::Saturate, t, Int::of(false, 100)),
+                };
+                assert!(rt; is(accumulate(&m, t, start, a), (true, 10, 0, true, 28)));
+            }
+            Err(_) => assert!(rt; false),
+        },
+        None => assert!(rt; false),
     }
 }

@@ -3,4 +3,4 @@ use Rattle.fi_math.proofs.Inside.{difference_inside}
 use Rattle.fi_ops.proofs.sums.sub.Goals as goal
 
 pub join-requires : goal.join-requires
-join-requires c = (difference_inside c.args.m.now (type_of c.args.a.num) (type_of c.args.b.num) (type_of c.args.t) c.requires).bits
+join-requires c e = (difference_inside c.args.m.now (type_of c.args.a.num) (type_of c.args.b.num) (type_of c.args.t) c.requires).bits
