@@ -1,8 +1,10 @@
 -- Types within the limits, and steps from one type to the next.
-use Rattle.std.proofs.Common.{ℕ, ℤ, ◌≡◌, ◌∙◌, ◌⊎◌, inl, inr, refl, sym, ◌<◌, ◌≤◌, Bool, true, false, arith, Err}
+use Rattle.std.proofs.Common.{ℕ, ℤ, ◌≡◌, ◌∙◌, ◌⊎◌, inl, inr, refl, sym, ◌<◌, ◌≤◌, Bool, true, false, arith, subst, Result, Ok, Err, IfOk}
 use Rattle.std.specs.Prelude.{◌≤ℤ◌, ◌<ℤ◌, nat_lt, int_lt, ◌||◌, if◌then◌else◌}
 use Rattle.std.proofs.lemmas.Int.{ints}
 use Rattle.std.proofs.lemmas.Bool.{lt-ltb, le-ltb, or_left, or_right, or_from}
+use Rattle.num_type.specs.View.{type_of}
+use Rattle.num_type.specs.declared.num_type.NumType.{NumType}
 use Rattle.num_type.specs.Types.{NumericType, IsWithin, fraction_least, fraction_most, word_limit}
 use Rattle.fi_math.specs.declared.types.NoType.{NoType}
 use Rattle.fi_math.specs.declared.types.NoType.TheVariants.{TooWide, FractionOut}
@@ -77,3 +79,22 @@ step_is m a t full h e = next_is (limited word_limit (full_sum t a)) full (λ _.
 pub no_step_is : (m : Fimath) (a t : NumericType) (none : NoType) → m.cast_before_sum ≡ false → made_of (Err none) ≡ limited word_limit (full_sum t a) → made_of (Err none) ≡ stepped m a t
 unfolding stepped
 no_step_is m a t none h e = none_is (limited word_limit (full_sum t a)) none (λ _. Is t) e ∙ sym (if_false m.cast_before_sum _ _ h)
+
+is_one : (a b : NumericType) → Is a ≡ Is b → a ≡ b
+is_one a b e = cc
+
+kept : (x : Made) (t made : NumericType) → and_then x (λ _. Is t) ≡ Is made → t ≡ made
+unfolding and_then
+kept (Is u) t made e = is_one t made e
+kept (Wide w) t made e = cc
+kept (Out f) t made e = cc
+
+-- the type that comes out of a step is the one that went in
+step_same : (m : Fimath) (a t made : NumericType) (c : Bool) → m.cast_before_sum ≡ c → stepped m a t ≡ Is made → t ≡ made
+unfolding stepped
+step_same m a t made true e h = is_one t made (sym (if_true m.cast_before_sum _ _ e) ∙ h)
+step_same m a t made false e h = kept (limited word_limit (full_sum t a)) t made (sym (if_false m.cast_before_sum _ _ e) ∙ h)
+
+pub step_kept : (r : Result NumType NoType) (m : Fimath) (a t : NumericType) → made_of r ≡ stepped m a t → IfOk r (λ u. stepped m a (type_of u) ≡ Is (type_of u))
+step_kept (Ok u) m a t e = let s : t ≡ type_of u = step_same m a t (type_of u) m.cast_before_sum refl (sym e) in subst (λ (x : NumericType). stepped m a x ≡ Is (type_of u)) s (sym e)
+step_kept (Err none) m a t e = tt

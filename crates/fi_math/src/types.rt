@@ -1,11 +1,11 @@
 //! The types of products, sums and differences.
 
-ghost use Rattle.std.specs.Prelude.{◌≡◌, ◌≤◌, ◌+◌, ◌≤ℤ◌, ◌-ℤ◌, pos};
+ghost use Rattle.std.specs.Prelude.{IfOk, ◌≡◌, ◌≤◌, ◌+◌, ◌≤ℤ◌, ◌-ℤ◌, pos};
 ghost use Rattle.num_type.specs.Types.{word_limit};
 ghost use Rattle.num_type.specs.View.{type_of};
 ghost use Rattle.fi_math.specs.Full.{product_limit, full_product, full_sum, full_sum_of, aligned_word};
 ghost use Rattle.fi_math.specs.Logs.{log2_up};
-ghost use Rattle.fi_math.specs.Made.{limited, and_then};
+ghost use Rattle.fi_math.specs.Made.{Is, limited, and_then};
 ghost use Rattle.fi_math.specs.Rules.{mode_type, product_by, sum_by, stepped, product_made, add_made, sub_made, sum_made, complex_product_made};
 ghost use Rattle.fi_math.specs.View.{made_of};
 
@@ -67,7 +67,8 @@ pub fn sub_type(m: &Fimath, a: NumType, b: NumType) -> Result<NumType, NoType>
 /// must be within the limits, too.
 #[tactic(auto, using(crate::proofs::Limits::none_is), unfolding(crate::specs::Rules::sum_made))]
 pub fn sum_type(m: &Fimath, a: NumType, n: u32) -> Result<NumType, NoType>
-    ensures { made_of result ≡ sum_made m.now (type_of a) n }
+    ensures made { made_of result ≡ sum_made m.now (type_of a) n }
+    ensures step { IfOk result (λ t. stepped m.now (type_of a) (type_of t) ≡ Is (type_of t)) }
 {
     match addends_type(m, a, n) {
         Ok(t) => stepped_type(m, a, t),

@@ -230,61 +230,100 @@ fn in_order(a: Parts, b: Parts, want: Ordering) -> bool {
     }
 }
 
-/// Whether a complex element has this type and these parts.
-fn is_pair(e: Pair, word: u32, re: (bool, u128), im: (bool, u128)) -> bool {
+/// A complex element's word length, and the sign and size of its real and of its imaginary part. Its type is signed, without fraction.
+type PairParts = (u32, bool, u128, bool, u128);
+
+/// Whether a complex element has these parts.
+fn is_pair(e: Pair, want: PairParts) -> bool {
     let num = e.num;
-    let real = e.re;
-    let imaginary = e.im;
+    let re = e.re;
+    let im = e.im;
     num.signed()
-        && num.word() == word
+        && num.word() == want.0
         && num.fraction() == 0
-        && real.is_negative() == re.0
-        && real.magnitude() == re.1
-        && imaginary.is_negative() == im.0
-        && imaginary.magnitude() == im.1
+        && re.is_negative() == want.1
+        && re.magnitude() == want.2
+        && im.is_negative() == want.3
+        && im.magnitude() == want.4
 }
 
-/// The complex element of a type with these parts, which are in range.
-fn pair(num: NumType, re: Int, im: Int) -> Pair {
-    Pair {
-        num,
-        re: fit(Overflow::Saturate, num, re),
-        im: fit(Overflow::Saturate, num, im),
+/// The complex element with these parts, which are in range.
+fn pair(parts: PairParts) -> Option<Pair> {
+    match NumType::make(true, parts.0, 0) {
+        Some(num) => Some(Pair {
+            num,
+            re: fit(Overflow::Saturate, num, Int::of(parts.1, parts.2)),
+            im: fit(Overflow::Saturate, num, Int::of(parts.3, parts.4)),
+        }),
+        None => None,
+    }
+}
+
+/// Whether an operation on complex elements gives what a table states.
+fn gives_pair(m: &Fimath, call: Call, a: PairParts, b: PairParts, want: PairParts) -> bool {
+    match (pair(a), pair(b)) {
+        (Some(a), Some(b)) => match call {
+            Call::Add => adds_pairs(m, a, b, want),
+            Call::Sub => subtracts_pairs(m, a, b, want),
+            Call::Mul => multiplies_pairs(m, a, b, want),
+            Call::Neg | Call::Abs => is_pair(conj(m, a), want),
+        },
+        _ => false,
+    }
+}
+
+fn adds_pairs(m: &Fimath, a: Pair, b: Pair, want: PairParts) -> bool {
+    match add_type(m, a.num, b.num) {
+        Ok(t) => is_pair(cadd(m, t, a, b), want),
+        Err(_) => false,
+    }
+}
+
+fn subtracts_pairs(m: &Fimath, a: Pair, b: Pair, want: PairParts) -> bool {
+    match sub_type(m, a.num, b.num) {
+        Ok(t) => is_pair(csub(m, t, a, b), want),
+        Err(_) => false,
+    }
+}
+
+fn multiplies_pairs(m: &Fimath, a: Pair, b: Pair, want: PairParts) -> bool {
+    match complex_product_type(m, a.num, b.num) {
+        Ok(t) => is_pair(cmul(m, t, a, b), want),
+        Err(_) => false,
     }
 }
 
 #[test]
-fn multiplies_complex(rt: HostRuntime) {
+fn computes_with_complex_elements(rt: HostRuntime) {
     let m = Fimath::usual();
-    if let Some(num) = NumType::make(true, 8, 0) {
-        let a = pair(num, Int::of(false, 1), Int::of(false, 2));
-        let b = pair(num, Int::of(false, 3), Int::of(true, 1));
-        match complex_product_type(&m, num, num) {
-            Ok(t) => assert!(rt; is_pair(cmul(&m, t, a, b), 17, (false, 5), (false, 5))),
-            Err(_) => assert!(rt; false),
-        }
-    } else {
-        assert!(rt; false);
+    let a = (8, false, 100, true, 128);
+    let b = (8, true, 100, true, 100);
+    for (call, a, b, want) in [
+        (
+            Call::Mul,
+            (8, false, 1, false, 2),
+            (8, false, 3, true, 1),
+            (17, false, 5, false, 5),
+        ),
+        (Call::Add, a, b, (9, false, 0, true, 228)),
+        (Call::Sub, a, b, (9, false, 200, true, 28)),
+        (Call::Neg, a, a, (8, false, 100, false, 127)),
+    ] {
+        assert!(rt; gives_pair(&m, call, a, b, want));
     }
 }
 
-#[test]
-fn adds_complex(rt: HostRuntime) {
-    let m = Fimath::usual();
-    if let Some(num) = NumType::make(true, 8, 0) {
-        let a = pair(num, Int::of(false, 100), Int::of(true, 128));
-        let b = pair(num, Int::of(true, 100), Int::of(true, 100));
-        match add_type(&m, num, num) {
-            Ok(t) => assert!(rt; is_pair(cadd(&m, t, a, b), 9, (false, 0), (true, 228))),
-            Err(_) => assert!(rt; false),
+/// Whether one step from this start in the sum type of four addends gives what is stated.
+fn steps(m: &Fimath, start: (bool, u128), a: Elem, want: Parts) -> bool {
+    match sum_type(m, a.num, 4) {
+        Ok(t) => {
+            let acc = Elem {
+                num: t,
+                z: fit(Overflow::Saturate, t, Int::of(start.0, start.1)),
+            };
+            is(accumulate(m, t, acc, a), want)
         }
-        match sub_type(&m, num, num) {
-            Ok(t) => assert!(rt; is_pair(csub(&m, t, a, b), 9, (false, 200), (true, 28))),
-            Err(_) => assert!(rt; false),
-        }
-        assert!(rt; is_pair(conj(&m, a), 8, (false, 100), (false, 127)));
-    } else {
-        assert!(rt; false);
+        Err(_) => false,
     }
 }
 
@@ -292,16 +331,7 @@ fn adds_complex(rt: HostRuntime) {
 fn accumulates(rt: HostRuntime) {
     let m = Fimath::usual();
     match element((true, 8, 0, true, 128)) {
-        Some(a) => match sum_type(&m, a.num, 4) {
-            Ok(t) => {
-                let start = Elem {
-                    num: t,
-                    z: fit(Overflow::Saturate, t, Int::of(false, 100)),
-                };
-                assert!(rt; is(accumulate(&m, t, start, a), (true, 10, 0, true, 28)));
-            }
-            Err(_) => assert!(rt; false),
-        },
+        Some(a) => assert!(rt; steps(&m, (false, 100), a, (true, 10, 0, true, 28))),
         None => assert!(rt; false),
     }
 }
