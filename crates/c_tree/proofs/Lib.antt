@@ -1,1 +1,3 @@
 mod Containers
+mod Count
+mod Within

@@ -1,0 +1,17 @@
+//! Laws of the definitions.
+
+ghost use Rattle.std.specs.Prelude.{◌≡◌, ◌<◌, ◌≤◌, ℕ, ℤ, List, length};
+ghost use Rattle.c_tree.specs.Tree.{Program};
+ghost use Rattle.c_tree.specs.Tokens.{body_token, program_tokens};
+ghost use Rattle.c_tree.specs.Spelling.{spelled};
+ghost use Rattle.c_tree.specs.Run.{run, Undefined};
+
+/// A program has as many tokens as are counted.
+pub fn tokens_are_counted()
+    ensures { (p : Program) → length (spelled p) ≡ program_tokens p }
+{}
+
+/// What a run finds undefined stands at a token of the program, behind its declarations.
+pub fn undefined_at_a_token()
+    ensures { (p : Program) (inputs outputs : List (List ℤ)) (n k : ℕ) → run p inputs outputs n ≡ Undefined k → (body_token p ≤ k) × (k < program_tokens p) }
+{}
