@@ -1,3 +1,8 @@
 mod Containers
 mod Count
 mod Within
+mod Lexing
+mod Declared
+mod Typed
+mod Laid
+mod LaidProgram

@@ -5,6 +5,9 @@ ghost use Rattle.c_tree.specs.Tree.{Program};
 ghost use Rattle.c_tree.specs.Tokens.{body_token, program_tokens};
 ghost use Rattle.c_tree.specs.Spelling.{spelled};
 ghost use Rattle.c_tree.specs.Run.{run, Undefined};
+ghost use Rattle.c_tree.specs.Layout.{layout};
+ghost use Rattle.c_tree.specs.CText.{IsText};
+ghost use Rattle.c_tree.specs.WellFormed.{IsWellFormed};
 
 /// A program has as many tokens as are counted.
 pub fn tokens_are_counted()
@@ -14,4 +17,9 @@ pub fn tokens_are_counted()
 /// What a run finds undefined stands at a token of the program, behind its declarations.
 pub fn undefined_at_a_token()
     ensures { (p : Program) (inputs outputs : List (List ℤ)) (n k : ℕ) → run p inputs outputs n ≡ Undefined k → (body_token p ≤ k) × (k < program_tokens p) }
+{}
+
+/// The layout of a well-formed program is one of its texts.
+pub fn layout_is_a_text()
+    ensures { (p : Program) → IsWellFormed p → IsText p (layout p) }
 {}
