@@ -6,3 +6,4 @@ mod Declared
 mod Typed
 mod Laid
 mod LaidProgram
+mod Loops

@@ -1,4 +1,5 @@
 pub mod CText
+pub mod Counted
 pub mod Depth
 pub mod Interface
 pub mod Layout

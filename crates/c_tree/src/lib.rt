@@ -1,6 +1,7 @@
 //! Trees of C programs: what they are, when they are well formed, what they mean, and their texts.
 #![tactic(auto)]
 
+mod amounts;
 mod array_names;
 mod interface;
 mod laws;
