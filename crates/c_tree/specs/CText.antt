@@ -24,9 +24,11 @@ signs =
     ∷ codes "==" ∷ codes "!=" ∷ codes "<" ∷ codes "<=" ∷ codes ">" ∷ codes ">=" ∷ codes "+" ∷ codes "-" ∷ codes "*" ∷ codes "&" ∷ codes "|"
     ∷ codes "^" ∷ codes "<<" ∷ codes ">>" ∷ []
 
+-- one of the signs
 abbrev pub is_sign : Text → Bool
 is_sign text = list_any (bytes_eq text) signs
 
+-- a word, a number or a sign
 abbrev pub is_token : Text → Bool
 is_token text = is_word text || (is_number text || is_sign text)
 

@@ -3,9 +3,11 @@ use Rattle.std.specs.Prelude.{ℕ, Bool, true, false, List, [], ◌++◌, flat_m
 use Rattle.shape_rules.specs.TypeText.{type_text, shape_text}
 use Rattle.c_tree.specs.Tree.{Kind, Fixed, Logical, Slot, Signature}
 
+-- the first line
 unfoldable pub include_line : List ℕ
 include_line = codes "#include <stdint.h>\n"
 
+-- what a complex slot has behind its shape
 abbrev pub complex_mark : Bool → List ℕ
 complex_mark true = codes ":c"
 complex_mark false = []
@@ -15,9 +17,11 @@ abbrev pub kind_text : Kind → List ℕ → List ℕ
 kind_text (Fixed t complex) shape = type_text t ++ codes ":" ++ shape ++ complex_mark complex
 kind_text Logical shape = codes "b:" ++ shape
 
+-- an input or an output behind a blank
 abbrev pub slot_text : Slot → List ℕ
 slot_text s = codes " " ++ s.name ++ codes ":" ++ kind_text s.kind (shape_text s.rows s.columns)
 
+-- inputs or outputs in order
 abbrev pub slots_text : List Slot → List ℕ
 slots_text = flat_map slot_text
 

@@ -11,6 +11,7 @@ use Rattle.c_tree.specs.Names.{arrays_of}
 use Rattle.c_tree.specs.Texts.{word_text, container_text, rel_text, op_text, var_text, counter_text, macro_text, array_text, read_text, store_text, function_name}
 use Rattle.c_tree.specs.Interface.{include_line, interface_line}
 
+-- a constant of a type
 abbrev pub constant_text : CWord → ℕ → List ℕ
 constant_text w n = macro_text w ++ codes "(" ++ decimal n ++ codes ")"
 
@@ -37,12 +38,15 @@ abbrev pub indent : ℕ → List ℕ
 indent zero = []
 indent (suc n) = codes "  " ++ indent n
 
+-- the start of a loop that counts
 abbrev pub start_text : Counter → List ℕ
 start_text c = codes "for (" ++ counter_text c ++ codes " = INT64_C(0); "
 
+-- its limit
 abbrev pub limit_text : Counter → ℕ → List ℕ
 limit_text c count = counter_text c ++ codes " < " ++ constant_text I64 count ++ codes "; "
 
+-- its step, up to the brace
 abbrev pub step_text : Counter → List ℕ
 step_text c = counter_text c ++ codes " = (" ++ counter_text c ++ codes " + INT64_C(1))) {\n"
 
@@ -54,6 +58,7 @@ for_text c count = start_text c ++ limit_text c count ++ step_text c
 abbrev pub head_text : Arrays → List ℕ → Test → List ℕ
 head_text all word t = word ++ codes " (" ++ test_text all t ++ codes ") {\n"
 
+-- the element that a store writes
 abbrev pub target_text : Arrays → CArray → Exp → List ℕ
 target_text all array at = array_text all array ++ codes "[" ++ exp_text all at ++ codes "] = "
 
@@ -84,6 +89,7 @@ abbrev mutual
 abbrev pub declared_text : Array → List ℕ
 declared_text a = container_text a.container ++ codes " " ++ a.name ++ codes "[" ++ decimal a.extent ++ codes "]"
 
+-- a comma, unless it is the first parameter
 abbrev pub comma_unless : Bool → List ℕ
 comma_unless true = []
 comma_unless false = codes ", "
@@ -93,19 +99,23 @@ abbrev pub parameters_text : Bool → List ℕ → List Array → List ℕ
 parameters_text first word [] = []
 parameters_text first word (a ∷ more) = comma_unless first ++ word ++ declared_text a ++ parameters_text false word more
 
+-- whether there is no array
 abbrev pub is_none : List Array → Bool
 is_none [] = true
 is_none (a ∷ more) = false
 
+-- the type that a function gives back
 unfoldable pub function_front : List ℕ
 function_front = codes "int32_t "
 
+-- up to the opening brace of the function
 abbrev pub header_text : Program → List ℕ
 header_text p =
     function_front ++ function_name p.interface.entry ++ codes "("
     ++ parameters_text true (codes "const ") (arrays_of p).inputs ++ parameters_text (is_none (arrays_of p).inputs) [] (arrays_of p).outputs
     ++ codes ") {\n"
 
+-- a local array, which starts with zeros
 abbrev pub local_text : Array → List ℕ
 local_text a = codes "  " ++ declared_text a ++ codes " = {0};\n"
 
@@ -113,6 +123,7 @@ local_text a = codes "  " ++ declared_text a ++ codes " = {0};\n"
 unfoldable pub zero_text : CWord → List ℕ
 zero_text w = codes " = " ++ constant_text w 0 ++ codes ";\n"
 
+-- the line of a variable or a counter
 abbrev pub start_line : CWord → List ℕ → List ℕ
 start_line w name = codes "  " ++ word_text w ++ codes " " ++ name ++ zero_text w
 
@@ -126,12 +137,14 @@ abbrev pub counters_text : List ℕ → ℕ → ℕ → List ℕ
 counters_text letter k zero = []
 counters_text letter k (suc n) = start_line I64 (letter ++ decimal k) ++ counters_text letter (k + 1) n
 
+-- the declarations in their order
 abbrev pub declarations_text : Program → List ℕ
 declarations_text p =
     flat_map local_text (arrays_of p).locals ++ words_text 0 p.words
     ++ counters_text (codes "g") 0 p.groups ++ counters_text (codes "b") 0 p.barriers
     ++ counters_text (codes "k") 0 p.sources ++ counters_text (codes "w") 0 p.turns
 
+-- the text of the function
 abbrev pub function_text : Program → List ℕ
 function_text p = header_text p ++ declarations_text p ++ block_text (arrays_of p) 1 p.body ++ codes "}\n"
 

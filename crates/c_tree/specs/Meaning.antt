@@ -46,21 +46,25 @@ pub record State : Type 0 where
   pub outputs : List Cells
   pub locals : List Cells
 
+-- the counters of one kind
 abbrev pub counts_of : Counts → CounterKind → List ℕ
 counts_of all counter.Group = all.groups
 counts_of all counter.Barrier = all.barriers
 counts_of all counter.Source = all.sources
 counts_of all counter.Turn = all.turns
 
+-- with other counters of one kind
 abbrev pub with_counts : Counts → CounterKind → List ℕ → Counts
 with_counts all counter.Group ns = record all { groups = ns }
 with_counts all counter.Barrier ns = record all { barriers = ns }
 with_counts all counter.Source ns = record all { sources = ns }
 with_counts all counter.Turn ns = record all { turns = ns }
 
+-- what a counter is at
 abbrev pub count_in : State → Counter → Option ℕ
 count_in st c = slice_get (counts_of st.counts c.kind) c.number
 
+-- an array by its number
 abbrev pub cells_in : State → CArray → Option Cells
 cells_in st (array.Input k) = slice_get st.inputs k
 cells_in st (array.Output k) = slice_get st.outputs k
@@ -82,7 +86,8 @@ wrapped bits z = unsigned_abs (int_rem_euclid z (pos (2 ^ bits)))
 abbrev pub fits_signed : ℕ → ℤ → Bool
 fits_signed bits z = int_le (neg_ℤ (pos (2 ^ (bits - 1)))) z && int_lt z (pos (2 ^ (bits - 1)))
 
--- an int64_t; out of its range undefined (6.5; for a conversion 6.3.1.3)
+-- an int64_t. Out of its range an operation is undefined (6.5); a conversion is left to the implementation (6.3.1.3), and counts as
+-- undefined here
 unfoldable pub signed_at : ℕ → ℤ → Outcome Word
 signed_at token z = when fits_signed 64 z then Gives (Int64 z) else UndefinedAt token
 
@@ -128,6 +133,7 @@ converted token I64 (Uint64 n) = signed_at token (pos n)
 converted token U64 (Int64 z) = unsigned z
 converted token _ _ = UndefinedAt token
 
+-- whether a relation holds between two numbers
 abbrev pub related : CRel → ℤ → ℤ → Bool
 related rel.Eq x y = int_eq x y
 related rel.Ne x y = not (int_eq x y)
@@ -151,6 +157,7 @@ unfoldable pub element : ℕ → Cells → Word → Outcome Word
 element token cells (Int64 (pos k)) = found_at token (slice_get cells.items k) >>= (λ z. Gives (loaded cells.container z))
 element token cells _ = UndefinedAt token
 
+-- a truth value as a number
 abbrev pub number_of : Bool → ℤ
 number_of true = pos 1
 number_of false = pos 0
@@ -194,22 +201,26 @@ assigned token (Int64 old) (Int64 z) = Gives (Int64 z)
 assigned token (Uint64 old) (Uint64 n) = Gives (Uint64 n)
 assigned token _ _ = UndefinedAt token
 
+-- with another value of a variable
 abbrev pub with_word : State → ℕ → Word → State
 with_word st k w = record st { words = slice_set st.words k w }
 
+-- with a counter at another number
 abbrev pub with_count : State → Counter → ℕ → State
 with_count st c n = record st { counts = with_counts st.counts c.kind (slice_set (counts_of st.counts c.kind) c.number n) }
 
+-- with other contents of an array
 abbrev pub with_cells : State → CArray → Cells → State
 with_cells st (array.Input k) cells = record st { inputs = slice_set st.inputs k cells }
 with_cells st (array.Output k) cells = record st { outputs = slice_set st.outputs k cells }
 with_cells st (array.Local k) cells = record st { locals = slice_set st.locals k cells }
 
+-- a word as a whole number
 abbrev pub whole_of : Word → ℤ
 whole_of (Int64 z) = z
 whole_of (Uint64 n) = pos n
 
--- the cast of a store, at its opening parenthesis (6.3.1.3)
+-- the cast of a store, at its opening parenthesis (6.3.1.3): out of a signed type's range it counts as undefined
 unfoldable pub kept : ℕ → Container → ℤ → Outcome ℤ
 kept token c z =
     when is_signed_container c then (when fits_signed (bits_of c) z then Gives z else UndefinedAt token)

@@ -24,6 +24,7 @@ abbrev pub kind_container : Kind → Container
 kind_container (Fixed t complex) = container_for t.signed t.word
 kind_container Logical = U8
 
+-- whether the elements have two parts
 abbrev pub is_complex : Kind → Bool
 is_complex (Fixed t complex) = complex
 is_complex Logical = false
@@ -34,9 +35,11 @@ pub record Fronts : Type 0 where
   pub re : List ℕ
   pub im : List ℕ
 
+-- of inputs
 abbrev pub input_fronts : Fronts
 input_fronts = record { plain = codes "in_"; re = codes "inr_"; im = codes "ini_" }
 
+-- of outputs
 abbrev pub output_fronts : Fronts
 output_fronts = record { plain = codes "out_"; re = codes "outr_"; im = codes "outi_" }
 
@@ -46,6 +49,7 @@ parts f name c n false = record { name = f.plain ++ name; container = c; extent 
 parts f name c n true =
     record { name = f.re ++ name; container = c; extent = n } ∷ record { name = f.im ++ name; container = c; extent = n } ∷ []
 
+-- the arrays of a slot
 abbrev pub slot_arrays : Fronts → Slot → List Array
 slot_arrays f s = parts f s.name (kind_container s.kind) (s.rows * s.columns) (is_complex s.kind)
 
@@ -54,18 +58,23 @@ abbrev pub locals_from : ℕ → List LocalArray → List Array
 locals_from k [] = []
 locals_from k (a ∷ more) = record { name = codes "m" ++ decimal k; container = a.container; extent = a.count } ∷ locals_from (suc k) more
 
+-- the arrays of slots in order
 abbrev pub slots_arrays : Fronts → List Slot → List Array
 slots_arrays f = flat_map (slot_arrays f)
 
+-- the arrays of the inputs
 abbrev pub input_arrays : Signature → List Array
 input_arrays i = slots_arrays input_fronts i.inputs
 
+-- the arrays of the outputs
 abbrev pub output_arrays : Signature → List Array
 output_arrays i = slots_arrays output_fronts i.outputs
 
+-- the arrays of a program
 abbrev pub arrays_of : Program → Arrays
 arrays_of p = record { inputs = input_arrays p.interface; outputs = output_arrays p.interface; locals = locals_from 0 p.arrays }
 
+-- an array by its number
 abbrev pub array_at : Arrays → CArray → Option Array
 array_at all (array.Input k) = slice_get all.inputs k
 array_at all (array.Output k) = slice_get all.outputs k

@@ -9,6 +9,7 @@ use Rattle.c_tree.specs.declared.array_names.Arrays.{Arrays}
 use Rattle.c_tree.specs.Names.{arrays_of}
 use Rattle.c_tree.specs.Texts.{Text, word_text, container_text, rel_text, op_text, var_text, counter_text, macro_text, array_text, read_text, store_text, function_name}
 
+-- tokens in order
 abbrev pub Texts : Type 0
 Texts = List Text
 
@@ -73,6 +74,7 @@ abbrev pub spell_outputs : List Array → Texts → Texts
 spell_outputs [] rest = rest
 spell_outputs (a ∷ more) rest = codes "," ∷ spell_array a (spell_outputs more rest)
 
+-- the inputs that come behind the first one
 abbrev pub spell_inputs : List Array → Texts → Texts
 spell_inputs [] rest = rest
 spell_inputs (a ∷ more) rest = codes "," ∷ codes "const" ∷ spell_array a (spell_inputs more rest)
@@ -103,12 +105,14 @@ abbrev pub spell_counters : Text → ℕ → ℕ → Texts → Texts
 spell_counters letter k zero rest = rest
 spell_counters letter k (suc n) rest = spell_start I64 (letter ++ decimal k) (spell_counters letter (k + 1) n rest)
 
+-- the declarations in their order
 abbrev pub spell_declarations : Program → Texts → Texts
 spell_declarations p rest =
     spell_locals (arrays_of p).locals (spell_words 0 p.words (
     spell_counters (codes "g") 0 p.groups (spell_counters (codes "b") 0 p.barriers (
     spell_counters (codes "k") 0 p.sources (spell_counters (codes "w") 0 p.turns rest)))))
 
+-- up to the opening brace of the function
 abbrev pub spell_header : Program → Texts → Texts
 spell_header p rest =
     codes "int32_t" ∷ function_name p.interface.entry ∷ codes "(" ∷

@@ -56,5 +56,6 @@ body_token p = header_tokens p + declaration_tokens p
 abbrev pub closing_token : Program → ℕ
 closing_token p = body_token p + block_tokens p.body
 
+-- all tokens of the function
 abbrev pub program_tokens : Program → ℕ
 program_tokens p = closing_token p + 1

@@ -22,6 +22,7 @@ use Rattle.c_tree.specs.Names.{arrays_of, array_at, is_const, word_of, counters_
 abbrev pub IsKind : Kind → Type 0
 IsKind kind = (t : NumericType) (complex : Bool) → kind ≡ Fixed t complex → IsWithin t
 
+-- a slot has a name, a type and a shape
 pub record IsSlot (s : Slot) : Type 0 where
   pub name : IsName s.name
   pub kind : IsKind s.kind
@@ -46,10 +47,12 @@ pub record IsInterface (i : Signature) : Type 0 where
 abbrev pub number_limit : ℕ
 number_limit = 2 ^ 32
 
+-- a local array has an element at least
 pub record IsLocalArray (a : LocalArray) : Type 0 where
   pub least : 1 ≤ a.count
   pub most : a.count < number_limit
 
+-- the declarations keep to their limits
 pub record AreDeclarations (p : Program) : Type 0 where
   pub arrays : All IsLocalArray p.arrays
   pub few_arrays : length p.arrays < number_limit
@@ -64,9 +67,11 @@ pub record Scope : Type 0 where
   pub words : List CWord
   pub counters : CounterKind → ℕ
 
+-- what a program declares
 abbrev pub scope_of : Program → Scope
 scope_of p = record { arrays = arrays_of p; words = p.words; counters = counters_of p }
 
+-- whether a counter is declared
 abbrev pub is_declared : Scope → Counter → Bool
 is_declared s c = nat_lt c.number (s.counters c.kind)
 
@@ -131,6 +136,7 @@ abbrev mutual
   pub is_test : Scope → Test → Bool
   is_test s (Compare rel a b) = is_one_type (type_of_exp s a) (type_of_exp s b)
 
+-- whether an expression has this type
 abbrev pub has_type : Scope → Exp → CWord → Bool
 has_type s e w = is_one_type (type_of_exp s e) (Some w)
 
@@ -175,10 +181,12 @@ abbrev mutual
   all_loop_counters Done = []
   all_loop_counters (Next x more) = loop_counters x ++ all_loop_counters more
 
+-- whether a statement is a return
 abbrev pub is_return : Sta → Bool
 is_return (Return status) = true
 is_return _ = false
 
+-- whether the last statement is a return
 abbrev pub last_is_return : Block → Bool
 last_is_return Done = false
 last_is_return (Next x Done) = is_return x
@@ -186,6 +194,7 @@ last_is_return (Next x (Next y more)) = last_is_return (Next y more)
 
 -- ---- the program
 
+-- a well-formed program
 pub record IsWellFormed (p : Program) : Type 0 where
   pub interface : IsInterface p.interface
   pub declarations : AreDeclarations p

@@ -3,7 +3,7 @@
 ghost use Rattle.std.specs.Prelude.{◌≡◌, ◌++◌, OnOk, codes};
 ghost use Rattle.c_tree.specs.View.{expr_view, test_view};
 ghost use Rattle.c_tree.specs.Layout.{exp_text, test_text};
-ghost use Rattle.c_tree.specs.Tree.{Element};
+ghost use Rattle.c_tree.specs.Tree.{Element, Cast, Truth, Neg};
 
 use crate::pieces::{
     put, put_array, put_constant, put_counter, put_op, put_read, put_rel, put_var, put_word,
@@ -22,22 +22,9 @@ pub fn put_expr(out: &mut Vec<u8>, all: &Arrays, e: &CExpr) -> Result<(), Memory
         CExpr::Var(k) => put_var(out, *k as u64),
         CExpr::Count(c) => put_counter(out, *c),
         CExpr::Element { array, at } => put_element(out, all, *array, at.get()),
-        CExpr::Cast(word, part) => {
-            put(out, b"(")?;
-            put_word(out, *word)?;
-            put(out, b")")?;
-            put_expr(out, all, part.get())
-        }
-        CExpr::Test(t) => {
-            put(out, b"(int64_t)(")?;
-            put_test(out, all, t.get())?;
-            put(out, b")")
-        }
-        CExpr::Neg(part) => {
-            put(out, b"(-")?;
-            put_expr(out, all, part.get())?;
-            put(out, b")")
-        }
+        CExpr::Cast(word, part) => put_cast(out, all, *word, part.get()),
+        CExpr::Test(t) => put_truth(out, all, t.get()),
+        CExpr::Neg(part) => put_negation(out, all, part.get()),
         CExpr::Binary(op, a, b) => {
             put(out, b"(")?;
             put_expr(out, all, a.get())?;
@@ -69,6 +56,37 @@ fn put_element(out: &mut Vec<u8>, all: &Arrays, array: CArray, at: &CExpr) -> Re
     put(out, b"[")?;
     put_expr(out, all, at)?;
     put(out, b"]")
+}
+
+// A cast and its operand.
+#[cycle(expr)]
+fn put_cast(out: &mut Vec<u8>, all: &Arrays, word: CWord, part: &CExpr) -> Result<(), Memory>
+    ensures { OnOk result (out.new.items ≡ out.old.items ++ exp_text all.now (Cast word (expr_view part.now))) }
+{
+    put(out, b"(")?;
+    put_word(out, word)?;
+    put(out, b")")?;
+    put_expr(out, all, part)
+}
+
+// A test as a number.
+#[cycle(expr)]
+fn put_truth(out: &mut Vec<u8>, all: &Arrays, t: &CTest) -> Result<(), Memory>
+    ensures { OnOk result (out.new.items ≡ out.old.items ++ exp_text all.now (Truth (test_view t.now))) }
+{
+    put(out, b"(int64_t)(")?;
+    put_test(out, all, t)?;
+    put(out, b")")
+}
+
+// A negated expression.
+#[cycle(expr)]
+fn put_negation(out: &mut Vec<u8>, all: &Arrays, part: &CExpr) -> Result<(), Memory>
+    ensures { OnOk result (out.new.items ≡ out.old.items ++ exp_text all.now (Neg (expr_view part.now))) }
+{
+    put(out, b"(-")?;
+    put_expr(out, all, part)?;
+    put(out, b")")
 }
 
 // A sign and the expression behind it.

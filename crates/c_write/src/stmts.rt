@@ -1,7 +1,7 @@
 //! Statements, each on lines of its own.
 
-ghost use Rattle.std.specs.Prelude.{◌≡◌, ◌++◌, OnOk, suc, codes};
-ghost use Rattle.c_tree.specs.Texts.{store_text};
+ghost use Rattle.std.specs.Prelude.{◌≡◌, ◌++◌, OnOk, suc, codes, decimal};
+ghost use Rattle.c_tree.specs.Texts.{store_text, var_text};
 ghost use Rattle.c_tree.specs.View.{expr_view, test_view, stmt_view, block_view};
 ghost use Rattle.c_tree.specs.Layout.{exp_text, indent, start_text, limit_text, step_text, for_text, head_text, target_text, sta_text, block_text};
 
@@ -20,12 +20,7 @@ pub fn put_stmt(out: &mut Vec<u8>, all: &Arrays, depth: usize, s: &CStmt) -> Res
 {
     put_indent(out, depth)?;
     match s {
-        CStmt::Set { var, value } => {
-            put_var(out, *var as u64)?;
-            put(out, b" = ")?;
-            put_expr(out, all, value)?;
-            put(out, b";\n")
-        }
+        CStmt::Set { var, value } => put_set(out, all, *var, value),
         CStmt::Store { array, at, value } => {
             put_target(out, all, *array, at)?;
             put_stored(out, all, *array, value)
@@ -58,12 +53,7 @@ pub fn put_stmt(out: &mut Vec<u8>, all: &Arrays, depth: usize, s: &CStmt) -> Res
         }
         CStmt::Break => put(out, b"break;\n"),
         CStmt::Continue => put(out, b"continue;\n"),
-        CStmt::Return(status) => {
-            put(out, b"return ")?;
-            put(out, b"INT32_C(")?;
-            put_number(out, *status as u64)?;
-            put(out, b");\n")
-        }
+        CStmt::Return(status) => put_return(out, *status),
     }
 }
 
@@ -98,6 +88,26 @@ pub fn put_block(
         put_stmt(out, all, depth, s)?;
     }
     Ok(())
+}
+
+// A variable and its value.
+fn put_set(out: &mut Vec<u8>, all: &Arrays, var: u32, value: &CExpr) -> Result<(), Memory>
+    ensures { OnOk result (out.new.items ≡ out.old.items ++ var_text var ++ codes " = " ++ exp_text all.now (expr_view value.now) ++ codes ";\n") }
+{
+    put_var(out, var as u64)?;
+    put(out, b" = ")?;
+    put_expr(out, all, value)?;
+    put(out, b";\n")
+}
+
+// A return with its status.
+fn put_return(out: &mut Vec<u8>, status: u32) -> Result<(), Memory>
+    ensures { OnOk result (out.new.items ≡ out.old.items ++ codes "return " ++ codes "INT32_C(" ++ decimal status ++ codes ");\n") }
+{
+    put(out, b"return ")?;
+    put(out, b"INT32_C(")?;
+    put_number(out, status as u64)?;
+    put(out, b");\n")
 }
 
 // The array of a store, its subscript and the sign.

@@ -12,9 +12,11 @@ pub record IsShape (rows columns : ℕ) : Type 0 where
   pub a_column : 1 ≤ columns
   pub few : rows * columns ≤ element_limit
 
+-- the rows of a shape
 abbrev pub rows_of : Shape → ℕ
 rows_of s = s.rows
 
+-- the columns of a shape
 abbrev pub columns_of : Shape → ℕ
 columns_of s = s.cols
 

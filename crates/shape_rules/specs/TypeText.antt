@@ -3,6 +3,7 @@ use Rattle.std.specs.Prelude.{ℕ, Bool, true, false, List, ◌++◌, codes, dec
 use Rattle.std.specs.Fmt.{signed_decimal}
 use Rattle.num_type.specs.Types.{NumericType}
 
+-- s for a signed type, u for an unsigned one
 abbrev pub sign_letter : Bool → List ℕ
 sign_letter true = codes "s"
 sign_letter false = codes "u"
