@@ -57,7 +57,7 @@ pub fn tokens(alloc: Global, bytes: &[u8]) -> Result<TokenList, Stop<Refusal>>
     ensures refusal { IfErr result (λ stop. RefusesOnly stop (λ r. IsOutcome bytes.now (Refuses r))) }
 {
     if SOURCE_MAX < bytes.len() {
-        let shown = Text::from_str(alloc, "1048576");
+        let shown = Text::from_bytes(alloc, b"1048576");
         return Err(refused(Code::Limit, Place::START, shown));
     }
     let read = scan(alloc, bytes)?;

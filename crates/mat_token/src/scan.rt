@@ -73,8 +73,7 @@ fn token_of(context: Context, place: Place, kind: Kind, len: usize) -> Token
 /// A digit of base 16.
 fn hex_digit(d: u8) -> u8
     requires { d < 16 }
-    ensures exact { result ≡ hex_digit d }
-    ensures ascii { result < 128 }
+    ensures { result ≡ hex_digit d }
 {
     if d < 10 { b'0' + d } else { b'a' - 10 + d }
 }
@@ -91,7 +90,7 @@ fn shown_of(alloc: Global, rule: Rule, s: &[u8]) -> Result<Text, AllocError>
     ensures { IfOk result (λ t. t ≡ shown_of rule s.now) }
 {
     match rule {
-        Rule::Word => Text::from_str(alloc, "63"),
+        Rule::Word => Text::from_bytes(alloc, b"63"),
         Rule::Words => quote(alloc, byte(s, 0)),
         _ => hex(alloc, byte(s, 0)),
     }
@@ -102,9 +101,9 @@ fn quote(alloc: Global, b: u8) -> Result<Text, AllocError>
     ensures { IfOk result (λ t. t ≡ (if b == 34 then 34 ∷ [] else 39 ∷ [])) }
 {
     if b == b'"' {
-        Text::from_str(alloc, "\"")
+        Text::from_bytes(alloc, b"\"")
     } else {
-        Text::from_str(alloc, "'")
+        Text::from_bytes(alloc, b"'")
     }
 }
 
@@ -144,7 +143,7 @@ fn token_at_end(alloc: Global, context: Context, place: Place) -> Result<Token, 
     if context.depth == 0 {
         return Ok(token_of(context, place, Kind::Finish, 0));
     }
-    let shown = Text::from_str(alloc, "%{");
+    let shown = Text::from_bytes(alloc, b"%{");
     Err(refused(Code::Unclosed, context.opening, shown))
 }
 

@@ -21,9 +21,9 @@ fn letter(kind: Kind) -> u8 {
 }
 
 /// The tokens of a text, each with its letter and its text, but for line ends; or the refusal.
-fn shown(alloc: Global, source: &str) -> Result<Vec<u8>, AllocError> {
+fn shown(alloc: Global, source: &[u8]) -> Result<Vec<u8>, AllocError> {
     let mut out = Vec::new(alloc);
-    match tokens(alloc, source.as_bytes()) {
+    match tokens(alloc, source) {
         Err(Stop::Memory) => return Err(AllocError),
         Err(Stop::Refused(refusal)) => {
             let code = match refusal.code {
@@ -42,12 +42,7 @@ fn shown(alloc: Global, source: &str) -> Result<Vec<u8>, AllocError> {
                 out.push(letter(token.kind))?;
                 let skipped = token.place.offset as usize;
                 if token.kind != Kind::Newline {
-                    for b in source
-                        .as_bytes()
-                        .iter()
-                        .skip(skipped)
-                        .take(token.len as usize)
-                    {
+                    for b in source.iter().skip(skipped).take(token.len as usize) {
                         out.push(*b)?;
                     }
                 }
@@ -91,7 +86,7 @@ fn worked_texts(rt: HostRuntime) -> Result<(), Fail> {
         ("\"\t\"", "1:1 E02 \""),
     ];
     for (source, wanted) in rows {
-        let got = shown(rt.alloc(), source)?;
+        let got = shown(rt.alloc(), source.as_bytes())?;
         assert_eq!(rt; got.as_slice(), wanted.as_bytes(), "of {source:?}");
     }
     Ok(())
@@ -99,22 +94,14 @@ fn worked_texts(rt: HostRuntime) -> Result<(), Fail> {
 
 #[test]
 fn limits(rt: HostRuntime) -> Result<(), Fail> {
-    let longest = "abcdefghijklmnopqrstuvwxyz_ABCDEFGHIJKLMNOPQRSTUVWXYZ_0123456789";
-    let got = shown(rt.alloc(), longest)?;
+    let long = b"abcdefghijklmnopqrstuvwxyz_ABCDEFGHIJKLMNOPQRSTUVWXYZ_0123456789";
+    let got = shown(rt.alloc(), long)?;
     assert_eq!(rt; got.as_slice(), b"1:1 E20 63".as_slice());
-    let got = shown(
-        rt.alloc(),
-        "abcdefghijklmnopqrstuvwxyz_ABCDEFGHIJKLMNOPQRSTUVWXYZ_012345678",
-    )?;
+    let got = shown(rt.alloc(), &long[..63])?;
     assert_eq!(rt; got.len(), 1 + 63 + 1 + 2);
     let blanks = vec![in rt.alloc(); b' '; 1_048_577]?;
-    match tokens(rt.alloc(), &blanks) {
-        Err(Stop::Refused(refusal)) => {
-            assert_eq!(rt; refusal.shown.as_bytes(), b"1048576".as_slice());
-            assert_eq!(rt; refusal.place, Place::START);
-        }
-        _ => assert!(rt; false),
-    }
+    let got = shown(rt.alloc(), &blanks)?;
+    assert_eq!(rt; got.as_slice(), b"1:1 E20 1048576".as_slice());
     Ok(())
 }
 
