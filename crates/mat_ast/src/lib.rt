@@ -4,10 +4,12 @@
 mod depth;
 mod file;
 mod make;
+#[cfg(test)]
+mod tests;
 mod tree;
 
 pub use depth::is_within;
-pub use file::File;
+pub use file::{DEPTH_MAX, File};
 pub use make::{
     apply, assign, binary, break_off, end, for_each, go_on, if_arms, if_else, if_only, matrix,
     multi, name, number, one_row, paren, post, range, range_by, store, unary, while_true, words,

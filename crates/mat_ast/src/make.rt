@@ -1,3 +1,5 @@
+//! Builders, one for each form of an expression and a statement.
+
 ghost use Rattle.std.specs.Prelude.{◌≡◌, IfOk};
 ghost use Rattle.mat_ast.specs.View.{expr_view, args_view, stmt_view, block_view, row_view, rows_view, arms_view};
 ghost use Rattle.mat_ast.specs.Tree.{Number, Words, Name, Apply, End, Unary, Binary, Post, Range, RangeBy, Paren, Matrix, Assign, Store, Multi, IfOnly, IfElse, ForEach, WhileTrue, BreakOff, GoOn, Arm, NoArms, RowOn, NoRows};
@@ -7,6 +9,7 @@ use fic_base::{Place, Text};
 use sqlite_items::{Boxed, Items};
 use std::alloc::{AllocError, Global};
 
+/// A sign and its operand. Want of memory is its only refusal.
 pub fn unary(alloc: Global, place: Place, op: UnOp, e: Expr) -> Result<Expr, AllocError>
     ensures { IfOk result (λ made. expr_view made ≡ Unary place op (expr_view e)) }
 {
@@ -16,6 +19,7 @@ pub fn unary(alloc: Global, place: Place, op: UnOp, e: Expr) -> Result<Expr, All
     })
 }
 
+/// An operator and its operands. Want of memory is its only refusal.
 pub fn binary(alloc: Global, place: Place, op: BinOp, a: Expr, b: Expr) -> Result<Expr, AllocError>
     ensures { IfOk result (λ made. expr_view made ≡ Binary place op (expr_view a) (expr_view b)) }
 {
@@ -27,6 +31,7 @@ pub fn binary(alloc: Global, place: Place, op: BinOp, a: Expr, b: Expr) -> Resul
     })
 }
 
+/// A name with parentheses.
 pub fn apply(place: Place, name: Text, paren: Place, args: Items<Arg>) -> Expr
     ensures { expr_view result ≡ Apply place name paren (args_view args) }
 {
@@ -36,6 +41,7 @@ pub fn apply(place: Place, name: Text, paren: Place, args: Items<Arg>) -> Expr
     }
 }
 
+/// A bracket of one row. Want of memory is its only refusal.
 pub fn one_row(alloc: Global, place: Place, row: Row) -> Result<Expr, AllocError>
     ensures { IfOk result (λ made. expr_view made ≡ Matrix place (RowOn (row_view row) NoRows)) }
 {
@@ -47,12 +53,14 @@ pub fn one_row(alloc: Global, place: Place, row: Row) -> Result<Expr, AllocError
     })
 }
 
+/// An assignment to a variable.
 pub fn assign(name: Ident, value: Expr) -> Stmt
     ensures { stmt_view result ≡ Assign name (expr_view value) }
 {
     Stmt::Assign { name, value }
 }
 
+/// An `if` of one arm without an `else`. Want of memory is its only refusal.
 pub fn if_only(
     alloc: Global,
     place: Place,
