@@ -1,2 +1,6 @@
 pub mod Steps
 pub mod Once
+pub mod Runs
+pub mod Longest
+pub mod Numbers
+pub mod Piece

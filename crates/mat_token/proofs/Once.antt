@@ -1,17 +1,12 @@
 -- A text has at most one outcome.
 use Rattle.std.proofs.lemmas.Bool.{cases_lt}
-use Rattle.std.proofs.Common.{◌≡◌, ℕ, List, length, take, drop, Option, Some, None, refl, sym, ap, ◌∙◌, subst, inl, inr}
+use Rattle.std.proofs.Common.{◌≡◌, ℕ, List, length, take, drop, refl, sym, ap, ◌∙◌, subst, inl, inr}
 use Rattle.fic_base.specs.declared.place.Place.{Place}
 use Rattle.mat_token.specs.declared.rule.Context.{Context}
 use Rattle.mat_token.specs.Rules.{rule_at, kind_of}
 use Rattle.mat_token.specs.Reads.{Outcome, Reads, Ends, Stops, GoesOn, place_after, after_piece, tokens_of, preceded}
+use Rattle.mat_token.proofs.Piece.{piece_once}
 use Rattle.mat_token.specs.Outcome.{IsOutcome, with_separators}
-
-some_none : (o : Option ℕ) (n : ℕ) → o ≡ None → o ≡ Some n → ⊥
-some_none o n h e = cc
-
-some_same : (o : Option ℕ) (m n : ℕ) → o ≡ Some m → o ≡ Some n → m ≡ n
-some_same o m n h e = cc
 
 -- the next piece has the same length
 next_same : (c : Context) (at : Place) (s : List ℕ) (m n : ℕ) (o : Outcome) → n ≡ m →
@@ -31,11 +26,11 @@ reads_once c at s o p (Ends c1 at1 s1 o1 empty is) (Stops c2 at2 s2 o2 full none
 reads_once c at s o p (Ends c1 at1 s1 o1 empty is) (GoesOn c2 at2 s2 o2 n x full long goes is2) = absurd (full empty)
 reads_once c at s o p (Stops c1 at1 s1 o1 full none is) (Ends c2 at2 s2 o2 empty2 is2) = absurd (full empty2)
 reads_once c at s o p (Stops c1 at1 s1 o1 full none is) (Stops c2 at2 s2 o2 full2 none2 is2) = is ∙ sym is2
-reads_once c at s o p (Stops c1 at1 s1 o1 full none is) (GoesOn c2 at2 s2 o2 n x full2 long goes is2) = absurd (some_none _ n none long)
+reads_once c at s o p (Stops c1 at1 s1 o1 full none is) (GoesOn c2 at2 s2 o2 n x full2 long goes is2) = absurd (none n long)
 reads_once c at s o p (GoesOn c1 at1 s1 o1 m y full1 long1 goes1 is) (Ends c2 at2 s2 o2 empty2 is2) = absurd (full1 empty2)
-reads_once c at s o p (GoesOn c1 at1 s1 o1 m y full1 long1 goes1 is) (Stops c2 at2 s2 o2 full2 none2 is2) = absurd (some_none _ m none2 long1)
+reads_once c at s o p (GoesOn c1 at1 s1 o1 m y full1 long1 goes1 is) (Stops c2 at2 s2 o2 full2 none2 is2) = absurd (none2 m long1)
 reads_once c at s o p (GoesOn c1 at1 s1 o1 m y full1 long1 goes1 is) (GoesOn c2 at2 s2 o2 n x full long goes is2) =
-    let e : n ≡ m = some_same _ n m long long1 in
+    let e : n ≡ m = piece_once c s n m long long1 in
     joined_same c at s m n o p y x e (reads_once _ _ _ y x goes1 (next_same c at s m n x e goes)) is is2
 
 pub outcome_once : (bytes : List ℕ) (o p : Outcome) → IsOutcome bytes o → IsOutcome bytes p → o ≡ p

@@ -9,7 +9,9 @@ use Rattle.mat_token.specs.declared.token.Kind.{Kind}
 use Rattle.mat_token.specs.declared.token.Token.{Token}
 use Rattle.mat_token.specs.declared.rule.Rule.{Rule}
 use Rattle.mat_token.specs.declared.rule.Context.{Context}
-use Rattle.mat_token.specs.Rules.{rule_at, piece_len, kind_of}
+use Rattle.mat_token.specs.Rules.{rule_at, kind_of}
+use Rattle.mat_token.specs.Pieces.{piece_len}
+use Rattle.mat_token.proofs.Piece.{piece, no_piece}
 use Rattle.mat_token.specs.Reads.{Outcome, Gives, Refuses, Reads, Ends, Stops, GoesOn, ReadsWhole, RefusesOnly, place_after, refusal_of, after_piece, tokens_of, preceded, outcome_at_end}
 
 pub not_empty : (s : List ℕ) → 0 < length s → s ≢ []
@@ -29,14 +31,14 @@ preceded_twice xs ys (Refuses r) = refl
 pub stopped : (c : Context) (at : Place) (s t : List ℕ) (rule : Rule) (r : Refusal) → t ≡ s → 0 < length s →
     rule ≡ rule_at c t → piece_len c (rule_at c t) t ≡ None → r ≡ refusal_of rule at t → Reads c at s (Refuses r)
 stopped c at s t rule r same some is none shown =
-    Stops c at s (Refuses r) (not_empty s some) (rw (← same) none) (rw (← same, ← is) (ap Refuses shown))
+    Stops c at s (Refuses r) (not_empty s some) (no_piece c s some (rw (← same) none)) (rw (← same, ← is) (ap Refuses shown))
 
 pub went : (c : Context) (at : Place) (s t text : List ℕ) (n : ℕ) (rule : Rule) (kind : Option Kind) (next : Context) (on : Place) (o : Outcome) →
-    t ≡ s → 0 < length s → rule ≡ rule_at c t → piece_len c (rule_at c t) t ≡ Some n → text ≡ take n t → kind ≡ kind_of rule text →
+    t ≡ s → 0 < length s → n ≤ length t → rule ≡ rule_at c t → piece_len c (rule_at c t) t ≡ Some n → text ≡ take n t → kind ≡ kind_of rule text →
     next ≡ after_piece c at rule text t kind → on ≡ place_after at text →
     Reads next on (drop n s) o → Reads c at s (preceded (tokens_of c at n kind) o)
-went c at s t text n rule kind next on o same some is long front sort is_next is_on goes =
-    GoesOn c at s _ n o (not_empty s some) (rw (← same) long)
+went c at s t text n rule kind next on o same some within is long front sort is_next is_on goes =
+    GoesOn c at s _ n o (not_empty s some) (piece c s n some (rw (← same) within) (rw (← same) long))
     (rw (← same, ← is, ← front, ← sort, ← is_next, ← is_on) (rw same goes))
     (rw (← same, ← is, ← front, ← sort) refl)
 

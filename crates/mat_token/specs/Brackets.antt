@@ -1,16 +1,13 @@
 -- The separators of brackets: blanks between two elements.
-use Rattle.std.specs.Prelude.{ℕ, Bool, true, false, List, [], ◌∷◌, ◌++◌, take, drop, not, ◌&&◌, ◌||◌, ◌==◌, slice_index, if◌then◌else◌, codes, bytes_eq}
+use Rattle.std.specs.Prelude.{ℕ, Bool, true, false, List, [], ◌∷◌, ◌++◌, drop, not, ◌&&◌, ◌||◌, ◌==◌, slice_index, if◌then◌else◌, codes, bytes_eq}
 use Rattle.std.specs.List.{list_any}
 use Rattle.fic_base.specs.declared.place.Place.{Place}
 use Rattle.mat_token.specs.declared.token.Kind.{Kind}
 use Rattle.mat_token.specs.declared.token.Kind.TheVariants as kind
 use Rattle.mat_token.specs.declared.token.Token.{Token}
 use Rattle.mat_token.specs.Bytes.{starts_blank, starts_dots}
+use Rattle.mat_token.specs.Lexeme.{text_of}
 use Rattle.mat_token.specs.Rules.{ends_operand}
-
--- the text of a token of these bytes
-abbrev pub text_of : List ℕ → Token → List ℕ
-text_of bytes t = take t.len (drop t.place.offset bytes)
 
 -- what stands behind a token
 abbrev pub behind : List ℕ → Token → List ℕ

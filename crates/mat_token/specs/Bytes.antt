@@ -1,15 +1,6 @@
 -- Bytes of a source, and what its lines look like.
+pub use Rattle.fic_base.specs.Names.{is_digit, is_letter, is_name_byte, keywords}
 use Rattle.std.specs.Prelude.{ℕ, Bool, true, false, List, [], ◌∷◌, drop, not, ◌&&◌, ◌||◌, ◌==◌, nat_le, slice_index, if◌then◌else◌}
-
-abbrev pub is_digit : ℕ → Bool
-is_digit b = nat_le 48 b && nat_le b 57
-
-abbrev pub is_letter : ℕ → Bool
-is_letter b = (nat_le 65 b && nat_le b 90) || (nat_le 97 b && nat_le b 122)
-
--- a letter, a digit or `_`
-abbrev pub is_name_byte : ℕ → Bool
-is_name_byte b = is_letter b || (is_digit b || b == 95)
 
 -- any byte but a line feed
 abbrev pub is_line_byte : ℕ → Bool

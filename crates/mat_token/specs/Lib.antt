@@ -1,7 +1,8 @@
 pub mod Lexeme
 pub mod Bytes
-pub mod Pieces
 pub mod Rules
+pub mod Texts
+pub mod Pieces
 pub mod Reads
 pub mod Brackets
 pub mod Outcome

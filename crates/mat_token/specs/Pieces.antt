@@ -1,7 +1,13 @@
--- How long the pieces of a source are.
-use Rattle.std.specs.Prelude.{ℕ, ◌+◌, ◌-◌, Bool, false, List, [], ◌∷◌, length, min, drop, not, ◌&&◌, ◌||◌, ◌==◌, nat_lt, slice_index, if◌then◌else◌, Option, Some, None, codes, option_map, bytes_eq}
-use Rattle.std.specs.List.{prefix_len, list_any}
-use Rattle.mat_token.specs.Bytes.{is_digit, is_name_byte, is_line_byte, is_printable, line_marks}
+-- The lengths of pieces as the code computes them. That each is the length of the longest text of its rule is proved in proofs/Piece.antt.
+use Rattle.std.specs.Prelude.{ℕ, ◌+◌, Bool, false, List, [], ◌∷◌, length, min, drop, not, ◌&&◌, ◌||◌, ◌==◌, nat_lt, slice_index, if◌then◌else◌, Option, Some, None, option_map}
+use Rattle.std.specs.List.{prefix_len}
+use Rattle.fic_base.specs.Decimal.{is_exponent_letter, is_sign}
+use Rattle.mat_token.specs.declared.rule.Rule.{Rule}
+use Rattle.mat_token.specs.declared.rule.Rule.TheVariants.{Block, Newline, Blank, Comment, Continued, Word, Number, Words, Op}
+use Rattle.mat_token.specs.declared.rule.Context.{Context}
+use Rattle.mat_token.specs.Bytes.{is_digit, is_name_byte, is_line_byte, is_printable}
+use Rattle.mat_token.specs.Rules.{depth_after}
+use Rattle.mat_token.specs.Texts.{takes_point, is_operator, is_long_operator}
 
 -- the bytes before the end of the line
 abbrev pub line_len : List ℕ → ℕ
@@ -23,10 +29,6 @@ word_len s = 1 + prefix_len is_name_byte (drop 1 s)
 abbrev pub digits_len : List ℕ → ℕ
 digits_len s = prefix_len is_digit s
 
--- whether a byte after the point of a number makes the point part of an operator
-abbrev pub takes_point : ℕ → Bool
-takes_point b = b == 42 || (b == 47 || (b == 92 || (b == 94 || b == 39)))
-
 -- a point that belongs to the digits before it comes first
 abbrev pub starts_point : List ℕ → Bool
 starts_point s = slice_index s 0 == 46 && (not (takes_point (slice_index s 1)) && not (slice_index s 1 == 46 && slice_index s 2 == 46))
@@ -43,13 +45,9 @@ head_len s = 1 + digits_len (drop 1 s)
 abbrev pub mantissa_len : List ℕ → ℕ
 mantissa_len s = if is_digit (slice_index s 0) then head_len s + fraction_len (drop (head_len s) s) else head_len s
 
--- `e`, `E`, `d` or `D`
-abbrev pub is_exponent_letter : ℕ → Bool
-is_exponent_letter b = b == 101 || (b == 69 || (b == 100 || b == 68))
-
 -- `e` and a sign, or `e` alone
 abbrev pub exponent_head : List ℕ → ℕ
-exponent_head s = if slice_index s 1 == 43 || slice_index s 1 == 45 then 2 else 1
+exponent_head s = if is_sign (slice_index s 1) then 2 else 1
 
 -- an exponent with at least one digit
 abbrev pub exponent_len : List ℕ → ℕ
@@ -80,39 +78,28 @@ closing_len quote half (b ∷ s) =
 abbrev pub text_len : List ℕ → Option ℕ
 text_len s = option_map (λ n. 1 + n) (closing_len (slice_index s 0) false (drop 1 s))
 
--- one of these bytes
-abbrev pub is_one_of : List ℕ → ℕ → Bool
-is_one_of bytes b = list_any (λ c. c == b) bytes
-
--- an operator of one byte
-abbrev pub is_operator : ℕ → Bool
-is_operator b = is_one_of (codes "+-*/\\^'=<>&|~:,;()[]") b
-
--- an operator of two bytes
-abbrev pub is_long_operator : ℕ → ℕ → Bool
-is_long_operator a b =
-    (a == 46 && is_one_of (codes "*/\\^'") b) || ((b == 61 && is_one_of (codes "=~<>") a) || (a == b && is_one_of (codes "&|") a))
-
 -- the longest operator that comes first
 abbrev pub operator_len : List ℕ → Option ℕ
 operator_len s =
     if is_long_operator (slice_index s 0) (slice_index s 1) then Some 2
     else (if is_operator (slice_index s 0) then Some 1 else None)
 
--- how many block comments are open after a line
-abbrev pub depth_after : ℕ → List ℕ → ℕ
-depth_after depth s = if line_marks 123 s then depth + 1 else (if line_marks 125 s then depth - 1 else depth)
-
 -- a line of a block comment; the end of its last line is no part of it
 abbrev pub block_len : ℕ → List ℕ → ℕ
 block_len depth s = if depth_after depth s == 0 then comment_len s else full_line_len s
 
--- the words that are no names: the keywords, and those that are reserved
-abbrev pub keywords : List (List ℕ)
-keywords =
-    codes "function" ∷ codes "end" ∷ codes "if" ∷ codes "elseif" ∷ codes "else" ∷ codes "for" ∷ codes "while" ∷ codes "break" ∷ codes "continue"
-    ∷ codes "switch" ∷ codes "case" ∷ codes "otherwise" ∷ codes "return" ∷ codes "try" ∷ codes "catch" ∷ codes "global" ∷ codes "persistent"
-    ∷ codes "parfor" ∷ codes "spmd" ∷ codes "classdef" ∷ []
+-- a name has at most 63 bytes
+abbrev pub name_len : List ℕ → Option ℕ
+name_len s = if nat_lt 63 (word_len s) then None else Some (word_len s)
 
-abbrev pub is_keyword : List ℕ → Bool
-is_keyword word = list_any (bytes_eq word) keywords
+-- the length of the piece that a rule gives
+abbrev pub piece_len : Context → Rule → List ℕ → Option ℕ
+piece_len c Block s = Some (block_len c.depth s)
+piece_len c Newline s = Some 1
+piece_len c Blank s = Some 1
+piece_len c Comment s = Some (comment_len s)
+piece_len c Continued s = Some (full_line_len s)
+piece_len c Word s = name_len s
+piece_len c Number s = Some (number_len s)
+piece_len c Words s = text_len s
+piece_len c Op s = operator_len s

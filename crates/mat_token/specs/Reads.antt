@@ -12,7 +12,8 @@ use Rattle.mat_token.specs.declared.token.Token.{Token}
 use Rattle.mat_token.specs.declared.rule.Rule.{Rule}
 use Rattle.mat_token.specs.declared.rule.Rule.TheVariants.{Word, Words}
 use Rattle.mat_token.specs.declared.rule.Context.{Context}
-use Rattle.mat_token.specs.Rules.{rule_at, piece_len, kind_of, after_token, after_gap}
+use Rattle.mat_token.specs.Texts.{IsPiece}
+use Rattle.mat_token.specs.Rules.{rule_at, kind_of, after_token, after_gap}
 
 -- what a text gives
 pub data Outcome : Type 0 where
@@ -75,13 +76,13 @@ outcome_at_end c at =
     if c.depth == 0 then Gives (token_of c at kind.Finish 0 ∷ [])
     else Refuses (record { code = Unclosed; place = c.opening; shown = codes "%{" })
 
--- what a text gives from a place on
+-- what a text gives from a place on: at its end its last token, where no piece comes first a refusal, and else what comes behind the piece
 pub data Reads : Context → Place → List ℕ → Outcome → Type 0 where
   Ends : (c : Context) (at : Place) (s : List ℕ) (o : Outcome) → s ≡ [] → o ≡ outcome_at_end c at → Reads c at s o
   Stops : (c : Context) (at : Place) (s : List ℕ) (o : Outcome) →
-      s ≢ [] → piece_len c (rule_at c s) s ≡ None → o ≡ Refuses (refusal_of (rule_at c s) at s) → Reads c at s o
+      s ≢ [] → ((n : ℕ) → IsPiece c s n → ⊥) → o ≡ Refuses (refusal_of (rule_at c s) at s) → Reads c at s o
   GoesOn : (c : Context) (at : Place) (s : List ℕ) (o : Outcome) (n : ℕ) (rest : Outcome) →
-      s ≢ [] → piece_len c (rule_at c s) s ≡ Some n →
+      s ≢ [] → IsPiece c s n →
       Reads (after_piece c at (rule_at c s) (take n s) s (kind_of (rule_at c s) (take n s))) (place_after at (take n s)) (drop n s) rest →
       o ≡ preceded (tokens_of c at n (kind_of (rule_at c s) (take n s))) rest → Reads c at s o
 

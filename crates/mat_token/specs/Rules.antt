@@ -1,5 +1,5 @@
 -- Which rule gives the piece at a place, and what is known after it.
-use Rattle.std.specs.Prelude.{ℕ, Bool, true, false, List, [], ◌∷◌, not, ◌&&◌, ◌||◌, ◌==◌, nat_lt, slice_index, if◌then◌else◌, Option, Some, None, codes, bytes_eq}
+use Rattle.std.specs.Prelude.{ℕ, ◌+◌, ◌-◌, Bool, true, false, List, [], ◌∷◌, not, ◌&&◌, ◌||◌, ◌==◌, nat_lt, slice_index, if◌then◌else◌, Option, Some, None, codes, bytes_eq}
 use Rattle.std.specs.List.{list_any}
 use Rattle.fic_base.specs.declared.place.Place.{Place}
 use Rattle.mat_token.specs.declared.token.Kind.{Kind}
@@ -7,8 +7,11 @@ use Rattle.mat_token.specs.declared.token.Kind.TheVariants as kind
 use Rattle.mat_token.specs.declared.rule.Rule.{Rule}
 use Rattle.mat_token.specs.declared.rule.Rule.TheVariants.{Block, Newline, Blank, Comment, Continued, Word, Number, Words, Op}
 use Rattle.mat_token.specs.declared.rule.Context.{Context}
-use Rattle.mat_token.specs.Bytes.{is_digit, is_letter, starts_blank, starts_dots, starts_mark}
-use Rattle.mat_token.specs.Pieces.{comment_len, full_line_len, word_len, number_len, text_len, operator_len, block_len, depth_after, is_keyword}
+use Rattle.mat_token.specs.Bytes.{is_digit, is_letter, starts_blank, starts_dots, starts_mark, line_marks, keywords}
+
+-- how many block comments are open after a line
+abbrev pub depth_after : ℕ → List ℕ → ℕ
+depth_after depth s = if line_marks 123 s then depth + 1 else (if line_marks 125 s then depth - 1 else depth)
 
 -- a line that has only blanks and `%{` begins a block comment
 abbrev pub rule_of_comment : Context → List ℕ → Rule
@@ -32,21 +35,9 @@ rule_at c s =
     else (if starts_dots s then Continued
     else rule_of_token c s))))
 
--- a name has at most 63 bytes
-abbrev pub name_len : List ℕ → Option ℕ
-name_len s = if nat_lt 63 (word_len s) then None else Some (word_len s)
-
--- the length of the piece that a rule gives
-abbrev pub piece_len : Context → Rule → List ℕ → Option ℕ
-piece_len c Block s = Some (block_len c.depth s)
-piece_len c Newline s = Some 1
-piece_len c Blank s = Some 1
-piece_len c Comment s = Some (comment_len s)
-piece_len c Continued s = Some (full_line_len s)
-piece_len c Word s = name_len s
-piece_len c Number s = Some (number_len s)
-piece_len c Words s = text_len s
-piece_len c Op s = operator_len s
+-- whether a word is no name
+abbrev pub is_keyword : List ℕ → Bool
+is_keyword word = list_any (bytes_eq word) keywords
 
 abbrev pub word_kind : List ℕ → Kind
 word_kind text = if is_keyword text then kind.Keyword else kind.Name

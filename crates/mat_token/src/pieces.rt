@@ -1,9 +1,11 @@
 //! How long the pieces of a source are.
 
 ghost use Rattle.std.specs.Prelude.{◌≡◌, ◌+◌, ◌<◌, ◌≤◌, ℕ, length, drop, slice_index, true, false, IfSome};
-ghost use Rattle.mat_token.specs.Pieces.{line_len, full_line_len, comment_len, word_len, head_len, digits_len, takes_point, starts_point, fraction_len, mantissa_len, is_exponent_letter, exponent_head, exponent_len, unit_len, real_len, number_len, closing_len, text_len, is_operator, is_long_operator, operator_len, is_one_of};
-ghost use Rattle.std.specs.List.{prefix_len};
+ghost use Rattle.fic_base.specs.Decimal.{is_exponent_letter};
+ghost use Rattle.mat_token.specs.Pieces.{line_len, full_line_len, comment_len, word_len, head_len, digits_len, starts_point, fraction_len, mantissa_len, exponent_head, exponent_len, unit_len, real_len, number_len, closing_len, text_len, operator_len};
+ghost use Rattle.mat_token.specs.Texts.{takes_point, is_operator, is_long_operator, is_one_of};
 ghost use Rattle.mat_token.specs.Bytes.{is_name_byte};
+ghost use Rattle.std.specs.List.{prefix_len};
 
 use crate::bytes::{byte, is_digit, is_line_byte, is_name_byte, is_printable};
 

@@ -1,9 +1,9 @@
 //! Which rule gives the piece of a source at a place, and how long the piece is.
 
 ghost use Rattle.std.specs.Prelude.{◌≡◌, ◌+◌, ◌<◌, ◌≤◌, ◌^◌, length, true, false, IfSome};
-ghost use Rattle.mat_token.specs.Pieces.{depth_after, block_len};
+ghost use Rattle.mat_token.specs.Rules.{depth_after, rule_at, kind_of, ends_operand, closes_operand, takes_transpose, word_kind, rule_of_comment, rule_of_token, after_token, after_gap};
+ghost use Rattle.mat_token.specs.Pieces.{block_len, piece_len, name_len};
 ghost use Rattle.mat_token.specs.declared.rule.Rule.TheVariants.{Block};
-ghost use Rattle.mat_token.specs.Rules.{rule_at, piece_len, kind_of, ends_operand, closes_operand, takes_transpose, word_kind, rule_of_comment, rule_of_token, name_len, after_token, after_gap};
 
 use crate::bytes::{byte, is_digit, is_letter, line_marks, starts_blank, starts_dots, starts_mark};
 use crate::pieces::{comment_len, full_line_len, number_len, operator_len, text_len, word_len};

@@ -2,7 +2,8 @@
 
 ghost use Rattle.std.specs.Prelude.{◌≡◌, ◌≢◌, ◌+◌, ◌<◌, ◌≤◌, ◌^◌, ◌∷◌, [], Some, None, length, IfOk, IfErr, MatchResult, OnOk, ◌++◌, Ok, ◌==◌, if◌then◌else◌};
 ghost use Rattle.num_type.specs.declared.memory.Stop.TheVariants.{Memory};
-ghost use Rattle.mat_token.specs.Rules.{rule_at, piece_len, kind_of};
+ghost use Rattle.mat_token.specs.Rules.{rule_at, kind_of};
+ghost use Rattle.mat_token.specs.Pieces.{piece_len};
 ghost use Rattle.mat_token.specs.Reads.{ReadsWhole, Gives, Refuses, RefusesOnly, hex_digit, hex, code_of, shown_of, refusal_of, after_piece, tokens_of, token_of, outcome_at_end};
 
 use crate::bytes::byte;

@@ -2,7 +2,8 @@
 
 ghost use Rattle.std.specs.Prelude.{◌≡◌, ◌++◌, IfOk, IfErr, OnOk, take, drop, false, []};
 ghost use Rattle.num_type.specs.declared.memory.Stop.TheVariants.{Memory};
-ghost use Rattle.mat_token.specs.Brackets.{text_of, behind, op_begins_operand, begins_operand, is_separated, separator_at, with_separator, separated};
+ghost use Rattle.mat_token.specs.Lexeme.{text_of};
+ghost use Rattle.mat_token.specs.Brackets.{behind, op_begins_operand, begins_operand, is_separated, separator_at, with_separator, separated};
 
 use crate::bytes::{from, starts_blank, starts_dots};
 use crate::nesting::Nesting;

@@ -2,7 +2,7 @@
 
 ghost use Rattle.std.specs.Prelude.{◌≡◌, bytes_eq};
 ghost use Rattle.std.specs.List.{list_any};
-ghost use Rattle.mat_token.specs.Pieces.{is_keyword};
+ghost use Rattle.mat_token.specs.Rules.{is_keyword};
 
 /// The keywords, and the words that are reserved.
 static KEYWORDS: [&str; 20] = [

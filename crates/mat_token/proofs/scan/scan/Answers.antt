@@ -24,7 +24,7 @@ loop-at-preserved c =
       line = omega (arith, front, c.place_after-place.ensures.line, c.loop-at.invariant.line);
       col = omega (arith, front, c.place_after-place.ensures.col, c.loop-at.invariant.col);
       joins = joined c.args.bytes.now c.loop-at.at c.in-Ok.piece.len _ _ _ _ _ c.loop-at.context c.loop-at.place c.loop-at.invariant.joins
-          (λ o. went _ _ _ _ _ _ _ _ _ _ o c.split_at.ensures.back some c.in-Ok.ensures.exact.0 c.in-Ok.ensures.exact.1
+          (λ o. went _ _ _ _ _ _ _ _ _ _ o c.split_at.ensures.back some c.in-Ok.ensures.within.1 c.in-Ok.ensures.exact.0 c.in-Ok.ensures.exact.1
           c.split_at-in-loop-at.ensures.front c.kind_of-kind.ensures c.after_piece-context.ensures.exact c.place_after-place.ensures.exact)
           c.in_ok-add_piece.ensures.tokens;
     }
