@@ -4,3 +4,5 @@ pub mod Runs
 pub mod Longest
 pub mod Numbers
 pub mod Piece
+pub mod Decimals
+pub mod Kept

@@ -9,7 +9,7 @@ use Rattle.mat_token.specs.declared.rule.Rule.TheVariants.{Number}
 use Rattle.mat_token.specs.declared.rule.Context.{Context}
 use Rattle.mat_token.specs.Bytes.{is_digit, is_name_byte}
 use Rattle.mat_token.specs.Pieces.{digits_len, starts_point, fraction_len, head_len, mantissa_len, exponent_head, exponent_len, unit_len, real_len, number_len}
-use Rattle.mat_token.specs.Texts.{takes_point, point_belongs, KeepsPoint, UnitTo, Real, Imaginary, NumberTo, Longest}
+use Rattle.mat_token.specs.Texts.{is_unit, takes_point, point_belongs, KeepsPoint, UnitTo, Real, Imaginary, NumberTo, Longest}
 use Rattle.mat_token.proofs.Runs.{run_end, run_all, run_most}
 
 -- bytes
@@ -30,7 +30,7 @@ letter_range b h = grind (arith, nat_tests)
 sign_range : (b : ℕ) → is_sign b ≡ true → (43 ≤ b) × (b ≤ 45)
 sign_range b h = grind (arith, nat_tests)
 
-unit_range : (b : ℕ) → (b == 105 || b == 106) ≡ true → (105 ≤ b) × (b ≤ 106)
+pub unit_range : (b : ℕ) → is_unit b ≡ true → (105 ≤ b) × (b ≤ 106)
 unit_range b h = grind (arith, nat_tests)
 
 no_point : (b : ℕ) → is_digit b ≡ true → b ≡ 46 → ⊥
@@ -73,10 +73,10 @@ point_is_end s to point d are is =
       | inr h ↦ omega (arith, h, d.most point are)
     ]
 
-digit_is : (b : ℕ) → is_digit b ≡ true → (46 ≤ b) × (b ≤ 57)
+pub digit_is : (b : ℕ) → is_digit b ≡ true → (46 ≤ b) × (b ≤ 57)
 digit_is b h = let r = digit_range b h in (omega (arith, r.0), r.1)
 
-point_is : (b : ℕ) → b ≡ 46 → (46 ≤ b) × (b ≤ 57)
+pub point_is : (b : ℕ) → b ≡ 46 → (46 ≤ b) × (b ≤ 57)
 point_is b h = (omega (arith, h), omega (arith, h))
 
 pointed_keeps : (s : List ℕ) (h : ℕ) → Digits s h → get_or s h 0 ≡ 46 → point_belongs s h ≡ true → KeepsPoint s (run_end is_digit s (h + 1))

@@ -6,3 +6,4 @@ pub mod Pieces
 pub mod Reads
 pub mod Brackets
 pub mod Outcome
+pub mod Kept

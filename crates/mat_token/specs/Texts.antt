@@ -23,10 +23,14 @@ point_belongs s k = not (takes_point (slice_index s (k + 1))) && not (slice_inde
 abbrev pub KeepsPoint : List ℕ → ℕ → Type 0
 KeepsPoint s to = (k : ℕ) → 0 < k → k < to → slice_index s k ≡ 46 → IsTrue (point_belongs s k)
 
+-- `i` or `j`
+abbrev pub is_unit : ℕ → Bool
+is_unit b = b == 105 || b == 106
+
 -- nothing, or `i` or `j` after which no name goes on
 pub data UnitTo (s : List ℕ) (from to : ℕ) : Type 0 where
   Real : from ≡ to → UnitTo s from to
-  Imaginary : IsTrue (slice_index s from == 105 || slice_index s from == 106) → IsTrue (not (is_name_byte (slice_index s (from + 1)))) →
+  Imaginary : IsTrue (is_unit (slice_index s from)) → IsTrue (not (is_name_byte (slice_index s (from + 1)))) →
       from + 1 ≡ to → UnitTo s from to
 
 -- a number: digits and a point, an exponent or none, `i` or `j` or none

@@ -3,6 +3,7 @@
 ghost use Rattle.std.specs.Prelude.{◌≡◌, IfOk, IfErr};
 ghost use Rattle.mat_token.specs.Reads.{Gives, Refuses, RefusesOnly, Outcome};
 ghost use Rattle.mat_token.specs.Outcome.{IsOutcome};
+ghost use Rattle.mat_token.specs.Kept.{AreTokensOf};
 
 use crate::scan::{refused, scan};
 use crate::separate::separate;
@@ -54,6 +55,7 @@ impl TokenList {
 ///   `Limit` showing `63`, at a name of more bytes than that; `BadByte` showing the byte in base 16, at a byte that begins no token.
 pub fn tokens(alloc: Global, bytes: &[u8]) -> Result<TokenList, Stop<Refusal>>
     ensures tokens { IfOk result (λ ts. IsOutcome bytes.now (Gives ts)) }
+    ensures kept { IfOk result (λ ts. AreTokensOf bytes.now ts) }
     ensures refusal { IfErr result (λ stop. RefusesOnly stop (λ r. IsOutcome bytes.now (Refuses r))) }
 {
     if SOURCE_MAX < bytes.len() {
