@@ -3,3 +3,5 @@ pub mod Join
 pub mod Texts
 pub mod ReadUp
 pub mod Sound
+pub mod Depths
+pub mod Views

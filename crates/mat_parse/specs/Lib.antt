@@ -3,3 +3,4 @@ pub mod Spelling
 pub mod Grammar
 pub mod Words
 pub mod Machine
+pub mod View
