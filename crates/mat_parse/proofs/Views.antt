@@ -1,5 +1,5 @@
 -- Lists of the code with one more, as contracts see them.
-use Rattle.std.proofs.Common.{◌≡◌, ℕ, List, [], ◌∷◌, ◌++◌, refl, ap, sym, ◌∙◌, map, Option, Some, None}
+use Rattle.std.proofs.Common.{◌≡◌, ℕ, List, [], ◌∷◌, ◌++◌, refl, ap, sym, ◌∙◌, map, max, Option, Some, None}
 use Rattle.fic_base.specs.declared.place.Place.{Place}
 use Rattle.mat_ast.specs.declared.tree.Expr.{Expr}
 use Rattle.mat_ast.specs.declared.tree.Arg.{Arg, fold-Arg, fold-roll-Arg}
@@ -11,7 +11,10 @@ use Rattle.mat_ast.specs.declared.tree.Stmt.{Stmt}
 use Rattle.mat_ast.specs.declared.tree.Arm.{roll-Arm, fold-roll-Arm}
 use Rattle.mat_ast.specs.declared.tree.Arm as arm
 use Rattle.mat_ast.specs.Tree.{Exp, Args, Row, RowEnd, Cell, Rows, Sta, Block, Arms}
-use Rattle.mat_ast.specs.View.{expr_view, arg_view, args_view, row_view, rows_view, stmt_view, block_view, arm_view, arms_view, args_of, row_of, rows_of, block_of, arms_of, Seen, arg_step, kind_step, expr_step, row_step, stmt_step, arm_step}
+use Rattle.mat_ast.specs.declared.tree.Func.{Func}
+use Rattle.mat_ast.specs.Depth.{block_depth, file_depth}
+use Rattle.mat_parse.proofs.Depths.{file_depth_fun}
+use Rattle.mat_ast.specs.View.{func_view, funcs_view, expr_view, arg_view, args_view, row_view, rows_view, stmt_view, block_view, arm_view, arms_view, args_of, row_of, rows_of, block_of, arms_of, Seen, arg_step, kind_step, expr_step, row_step, stmt_step, arm_step}
 use Rattle.mat_parse.specs.Machine.{with_item, with_whole, with_cell, with_row, with_statement, with_arm}
 use Rattle.mat_parse.specs.View.{cells_view}
 
@@ -78,3 +81,6 @@ pub arms_push : (arms : List arm.Arm) (condition : Expr) (body : List Stmt) → 
 arms_push arms condition body =
     ap arms_of (map_last arm_view arms (roll-Arm (record { condition = condition; body = body })) ∙ ap (λ (a : Seen). map arm_view arms ++ a ∷ []) (arm_made condition body))
     ∙ arms_last (map arm_view arms) (expr_view condition, block_view body)
+
+pub funcs_push : (old new : List Func) (f : Func) → new ≡ old ++ f ∷ [] → file_depth (funcs_view new) ≡ max (file_depth (funcs_view old)) (block_depth (block_view f.body))
+funcs_push old new f e = ap (λ fs. file_depth (funcs_view fs)) e ∙ ap file_depth (map_last func_view old f) ∙ file_depth_fun (funcs_view old) (func_view f)

@@ -5,6 +5,7 @@ ghost use Rattle.std.specs.Prelude.{List};
 ghost use Rattle.mat_token.specs.Lexeme.{Lexeme};
 ghost use Rattle.mat_parse.specs.Grammar.{IsLive, IsShallow};
 
+mod body;
 mod part;
 mod word;
 
