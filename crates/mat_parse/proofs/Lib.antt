@@ -5,3 +5,6 @@ pub mod ReadUp
 pub mod Sound
 pub mod Depths
 pub mod Views
+pub mod Settle
+pub mod Stacks
+pub mod Scans

@@ -39,7 +39,7 @@ unit_behind [] c h = h
 unit_behind (d ∷ []) c h = h
 unit_behind (d ∷ e ∷ digits) c h = unit_behind (e ∷ digits) c h
 
-front_behind : (digits : List ℕ) (c : ℕ) → front_of (digits ++ c ∷ []) ≡ digits
+pub front_behind : (digits : List ℕ) (c : ℕ) → front_of (digits ++ c ∷ []) ≡ digits
 front_behind [] c = refl
 front_behind (d ∷ []) c = refl
 front_behind (d ∷ e ∷ digits) c = ap (λ x. d ∷ x) (front_behind (e ∷ digits) c)
@@ -134,7 +134,7 @@ other_step : (q c d : ℕ) (cs : List ℕ) → nat_eq c q ≡ false → undouble
 other_step q c d cs e =
     ap (λ b. if b then (if nat_eq d q then option_map (λ more. c ∷ more) (undoubled q cs) else None) else option_map (λ more. c ∷ more) (undoubled q (d ∷ cs))) e
 
-quote_step : (q c : ℕ) (cs : List ℕ) → nat_eq c q ≡ true → undoubled q (c ∷ c ∷ cs) ≡ option_map (λ more. c ∷ more) (undoubled q cs)
+pub quote_step : (q c : ℕ) (cs : List ℕ) → nat_eq c q ≡ true → undoubled q (c ∷ c ∷ cs) ≡ option_map (λ more. c ∷ more) (undoubled q cs)
 quote_step q c cs e =
     ap (λ b. if b then (if b then option_map (λ more. c ∷ more) (undoubled q cs) else None) else option_map (λ more. c ∷ more) (undoubled q (c ∷ cs))) e
 

@@ -4,3 +4,4 @@ pub mod Grammar
 pub mod Words
 pub mod Machine
 pub mod View
+pub mod Pending

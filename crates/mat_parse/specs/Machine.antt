@@ -227,6 +227,10 @@ abbrev pub for_argument : Purpose → Bool
 for_argument (Argument u at text opens args) = true
 for_argument _ = false
 
+abbrev pub is_call : Frame → Bool
+is_call (Call at text opens args) = true
+is_call _ = false
+
 abbrev pub inside : Stack → Purpose → Bool
 inside [] k = for_argument k
 inside (Call at text opens args ∷ st) k = true

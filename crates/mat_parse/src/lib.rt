@@ -6,7 +6,11 @@ ghost use Rattle.mat_token.specs.Lexeme.{Lexeme};
 ghost use Rattle.mat_parse.specs.Grammar.{IsLive, IsShallow};
 
 mod body;
+mod expression;
 mod part;
+mod pending;
+mod stack;
+mod text;
 mod word;
 
 pub use word::{Mode, Word};
