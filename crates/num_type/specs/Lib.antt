@@ -1,4 +1,5 @@
 pub mod Containers
+pub mod Decimals
 pub mod Types
 pub mod View
 pub mod Whole

@@ -1,6 +1,6 @@
 //! Whole numbers of up to 128 bits and a sign.
 
-ghost use Rattle.std.specs.Prelude.{◌≡◌, ◌<◌, ◌^◌, ℤ, unsigned_abs};
+ghost use Rattle.std.specs.Prelude.{◌≡◌, ◌<◌, ◌^◌, ◌<ℤ◌, ◌≤ℤ◌, ◌⊎◌, ◌↔◌, ℤ, pos, neg_ℤ, unsigned_abs, IfSome, IsNone};
 ghost use Rattle.num_type.specs.Whole.{signed, is_below_zero};
 
 use std::marker::Model;
@@ -48,5 +48,39 @@ impl Int {
         ensures { result ≡ unsigned_abs self }
     {
         self.mag
+    }
+
+    /// The number of a machine integer.
+    pub fn from_i128(v: i128) -> Int
+        ensures { result ≡ v }
+    {
+        Int::of(v < 0, v.unsigned_abs())
+    }
+
+    /// The number as a machine integer. None exactly where it isn't from -2^63 to 2^63 - 1.
+    pub fn to_i64(self) -> Option<i64>
+        ensures some { IfSome result (λ v. v ≡ self) }
+        ensures none { IsNone result ↔ ((self <ℤ neg_ℤ (pos (2 ^ 63))) ⊎ (pos (2 ^ 63) ≤ℤ self)) }
+    {
+        if self.neg {
+            below_zero(self.mag)
+        } else if self.mag < 1 << 63 {
+            Some(self.mag as i64)
+        } else {
+            None
+        }
+    }
+}
+
+// The machine integer of this size below 0. None exactly where the size is above 2^63.
+fn below_zero(mag: u128) -> Option<i64>
+    requires { 0 < mag }
+    ensures some { IfSome result (λ v. v ≡ neg_ℤ (pos mag)) }
+    ensures none { IsNone result ↔ (2 ^ 63 < mag) }
+{
+    if mag <= 1 << 63 {
+        Some((-(mag as i128)) as i64)
+    } else {
+        None
     }
 }

@@ -1,0 +1,9 @@
+use Rattle.std.proofs.Common.{◌≡◌, ◌↔◌, ◌<◌, ◌^◌, drop}
+use Rattle.std.specs.Str.Parse.{AllDigits, digits_value, digits_value_after}
+use Rattle.num_type.proofs.decimal.value_of_digits.Given as goal
+
+abbrev pub invariant-loop-byte : goal.invariant-loop-byte
+invariant-loop-byte l =
+    (digits_value_after 10 l.value (drop l.byte-index l.bytes) ≡ digits_value 10 l.bytes)
+    × (AllDigits 10 l.bytes ↔ AllDigits 10 (drop l.byte-index l.bytes))
+    × (l.value < 2 ^ 128)
