@@ -5,7 +5,7 @@ use Rattle.num_type.specs.Types.{NumericType}
 use Rattle.fi_math.specs.declared.fimath.Fimath.{Fimath}
 use Rattle.fi_math.specs.declared.types.NoType.{NoType}
 use Rattle.fi_math.specs.declared.types.NoType.TheVariants.{TooWide, FractionOut}
-use Rattle.fi_math.specs.Made.{Is, Wide, Out}
+use Rattle.fi_math.specs.Made.{Is}
 use Rattle.fi_math.specs.View.{made_of}
 use Rattle.fi_math.specs.Rules.{add_made, sub_made, product_made, complex_product_made}
 use Rattle.fi_math.proofs.Inside.{first_is}

@@ -1,8 +1,4 @@
-use Rattle.std.proofs.Common.{ap, subst, ◌≤◌, ◌≡◌}
-use Rattle.num_type.specs.Types.{word_limit}
 use Rattle.num_type.specs.View.{type_of}
-use Rattle.num_type.specs.declared.num_type.NumType.{NumType}
-use Rattle.fi_math.specs.Full.{full_sum}
 use Rattle.fi_math.proofs.Inside.{step_inside}
 use Rattle.fi_ops.proofs.sums.accumulate.Goals as goal
 
