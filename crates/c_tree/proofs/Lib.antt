@@ -7,3 +7,4 @@ mod Typed
 mod Laid
 mod LaidProgram
 mod Loops
+mod Example
