@@ -2,11 +2,12 @@
 use Rattle.std.proofs.lemmas.Bool.{cases_lt}
 use Rattle.std.proofs.lemmas.List.{length-drop, length-take-le, drop-drop}
 use Rattle.std.specs.List.{AllByRecursion}
-use Rattle.std.proofs.Common.{◌≡◌, ◌≢◌, ℕ, ◌+◌, ◌-◌, ◌≤◌, Bool, true, false, List, [], ◌∷◌, ◌++◌, length, take, drop, refl, sym, ap, ◌∙◌, subst, Option, Some, None, inl, inr, arith}
+use Rattle.std.proofs.Common.{◌≡◌, ◌≢◌, ℕ, ◌+◌, ◌-◌, ◌≤◌, Bool, true, false, List, [], ◌∷◌, ◌++◌, length, take, drop, refl, sym, ap, ◌∙◌, subst, Option, Some, None, inl, inr, arith, ◌<◌}
 use Rattle.std.specs.Prelude.{if◌then◌else◌, ◌==◌, codes}
 use Rattle.fic_base.specs.declared.place.Place.{Place}
 use Rattle.fic_base.specs.declared.code.Code.TheVariants.{Unclosed}
 use Rattle.fic_base.specs.declared.refusal.Refusal.{Refusal}
+use Rattle.fic_base.specs.Names.{IsName}
 use Rattle.mat_token.specs.declared.token.Kind.{Kind}
 use Rattle.mat_token.specs.declared.token.Kind.TheVariants as kind
 use Rattle.mat_token.specs.declared.token.Token.{Token}
@@ -22,6 +23,7 @@ use Rattle.mat_token.specs.Rules.{ends_operand}
 use Rattle.mat_token.specs.Outcome.{IsOutcome, with_separators, too_long}
 use Rattle.mat_token.specs.Kept.{IsNumberText, IsTokenOf, EndsOnce, AreTokensOf}
 use Rattle.mat_token.proofs.Decimals.{number_text}
+use Rattle.mat_token.proofs.Names.{name_text}
 
 gives_same : (xs ys : List Token) → Gives xs ≡ Gives ys → xs ≡ ys
 gives_same xs ys e = cc
@@ -59,13 +61,18 @@ number_token : (c : Context) (s : List ℕ) (n : ℕ) (k : Kind) → IsPiece c s
 number_token c s n k p e is =
     number_text s n p.longest.within (subst (λ (r : Rule). IsOf c r s n) (number_rule (rule_at c s) (take n s) k e is) p.longest.is)
 
+some_bytes : (s : List ℕ) → s ≢ [] → 0 < length s
+some_bytes [] h = absurd (h refl)
+some_bytes (b ∷ s) h = omega arith
+
 -- the tokens of one piece
 piece_kept : (bytes : List ℕ) (c : Context) (at : Place) (s : List ℕ) (n : ℕ) (o : Option Kind) →
     s ≡ drop at.offset bytes → at.offset + n ≤ length bytes → ((k : Kind) → o ≡ Some k → k ≡ kind.Number → IsNumberText (take n s)) →
+    ((k : Kind) → o ≡ Some k → k ≡ kind.Name → IsName (take n s)) →
     AllByRecursion (IsTokenOf bytes) (tokens_of c at n o)
-piece_kept bytes c at s n None same low number = tt
-piece_kept bytes c at s n (Some k) same low number =
-    (record { within = low; number = λ is. subst (λ (t : List ℕ). IsNumberText (take n t)) same (number k refl is) }, tt)
+piece_kept bytes c at s n None same low number name = tt
+piece_kept bytes c at s n (Some k) same low number name =
+    (record { within = low; number = λ is. subst (λ (t : List ℕ). IsNumberText (take n t)) same (number k refl is); name = λ is. subst (λ (t : List ℕ). IsName (take n t)) same (name k refl is) }, tt)
 
 all_joined : (P : Token → Type 0) (xs ys : List Token) → AllByRecursion P xs → AllByRecursion P ys → AllByRecursion P (xs ++ ys)
 all_joined P [] ys h k = k
@@ -76,7 +83,7 @@ end_kept : (bytes : List ℕ) (c : Context) (at : Place) (ts : List Token) (v : 
     AllByRecursion (IsTokenOf bytes) ts × EndsOnce ts
 end_kept bytes c at ts true low e =
     let P : List Token → Type 0 = λ us. AllByRecursion (IsTokenOf bytes) us × EndsOnce us in
-    subst P (sym (gives_same _ _ e)) ((record { within = omega (arith, low); number = λ is. absurd cc }, tt), refl)
+    subst P (sym (gives_same _ _ e)) ((record { within = omega (arith, low); number = λ is. absurd cc; name = λ is. absurd cc }, tt), refl)
 end_kept bytes c at ts false low e = absurd (never _ _ e)
 
 word_no_finish : (v : Bool) → (if v then kind.Keyword else kind.Name) ≡ kind.Finish → ⊥
@@ -107,16 +114,16 @@ abbrev Kept : List ℕ → List Token → Type 0
 Kept bytes ts = AllByRecursion (IsTokenOf bytes) ts × EndsOnce ts
 
 after_kept : (bytes : List ℕ) (c : Context) (at : Place) (s : List ℕ) (n : ℕ) (ts : List Token) (rest : Outcome) →
-    IsPiece c s n → s ≡ drop at.offset bytes → at.offset ≤ length bytes → ((us : List Token) → rest ≡ Gives us → Kept bytes us) →
+    0 < length s → IsPiece c s n → s ≡ drop at.offset bytes → at.offset ≤ length bytes → ((us : List Token) → rest ≡ Gives us → Kept bytes us) →
     Gives ts ≡ preceded (tokens_of c at n (kind_of (rule_at c s) (take n s))) rest → Kept bytes ts
-after_kept bytes c at s n ts (Refuses r) p same low kept e = absurd (never r ts e)
-after_kept bytes c at s n ts (Gives us) p same low kept e =
+after_kept bytes c at s n ts (Refuses r) some p same low kept e = absurd (never r ts e)
+after_kept bytes c at s n ts (Gives us) some p same low kept e =
     let size : length s ≡ length bytes - at.offset = ap length same ∙ length-drop at.offset bytes in
     let more = kept us refl in
     let P : List Token → Type 0 = λ xs. Kept bytes xs in
     subst P (sym (gives_same _ _ e)) (
       all_joined (IsTokenOf bytes) (tokens_of c at n (kind_of (rule_at c s) (take n s))) us
-          (piece_kept bytes c at s n (kind_of (rule_at c s) (take n s)) same (omega (arith, size, low, p.longest.within)) (λ k. number_token c s n k p)) more.0,
+          (piece_kept bytes c at s n (kind_of (rule_at c s) (take n s)) same (omega (arith, size, low, p.longest.within)) (λ k. number_token c s n k p) (λ k. name_text c s n k some p)) more.0,
       ends_joined c at n (kind_of (rule_at c s) (take n s)) us (no_finish (rule_at c s) (take n s)) more.1,
     )
 
@@ -136,12 +143,12 @@ read_kept : (bytes : List ℕ) (c : Context) (at : Place) (s : List ℕ) (o : Ou
 read_kept bytes c at s o (Ends c1 at1 s1 o1 empty is) same low ts e = end_kept bytes c at ts (c.depth == 0) low (sym e ∙ is)
 read_kept bytes c at s o (Stops c1 at1 s1 o1 full none is) same low ts e = absurd (never _ ts (sym e ∙ is))
 read_kept bytes c at s o (GoesOn c1 at1 s1 o1 n rest full p goes is) same low ts e =
-    after_kept bytes c at s n ts rest p same low
+    after_kept bytes c at s n ts rest (some_bytes s full) p same low
     (read_kept bytes _ _ _ rest goes (rest_is bytes at s n p.longest.within same) (rest_low bytes at s n p.longest.within same low))
     (sym e ∙ is)
 
 with_separator_kept : (bytes : List ℕ) (v : Bool) (t : Token) → IsTokenOf bytes t → AllByRecursion (IsTokenOf bytes) (with_separator v t)
-with_separator_kept bytes true t h = (record { within = omega (arith, h.within); number = λ is. absurd cc }, (h, tt))
+with_separator_kept bytes true t h = (record { within = omega (arith, h.within); number = λ is. absurd cc; name = λ is. absurd cc }, (h, tt))
 with_separator_kept bytes false t h = (h, tt)
 
 separated_kept : (bytes brackets : List ℕ) (operand : Bool) (ts : List Token) → AllByRecursion (IsTokenOf bytes) ts → AllByRecursion (IsTokenOf bytes) (separated bytes brackets operand ts)

@@ -6,3 +6,4 @@ pub mod Numbers
 pub mod Piece
 pub mod Decimals
 pub mod Kept
+pub mod Names

@@ -18,7 +18,7 @@ pub both : (a b : Bool) → (a && b) ≡ true → (a ≡ true) × (b ≡ true)
 both true b h = (refl, h)
 both false b h = absurd (false≢true h)
 
-neither : (a b : Bool) → a ≡ true → b ≡ true → (a && b) ≡ true
+pub neither : (a b : Bool) → a ≡ true → b ≡ true → (a && b) ≡ true
 neither a b h k = rw (h, k) refl
 
 digit_range : (b : ℕ) → is_digit b ≡ true → (48 ≤ b) × (b ≤ 57)

@@ -13,10 +13,11 @@ use Rattle.mat_token.specs.Texts.{Longest, IsPiece}
 use Rattle.mat_token.proofs.Longest.{comment_longest, word_longest, continued_longest, block_longest, operator_longest, operator_none, text_longest, text_none, some_is, none_some}
 use Rattle.mat_token.proofs.Numbers.{StartsNumber, both, number_longest}
 
--- what the first bytes of two rules are known to be
+-- what the first bytes of some rules are known to be
 abbrev Begins : List ℕ → Rule → Type 0
 Begins s Number = StartsNumber s
 Begins s Words = slice_index s 0 ≢ 0
+Begins s Word = is_letter (slice_index s 0) ≡ true
 Begins s _ = Unit {0}
 
 chosen : (P : Rule → Type 0) (v : Bool) (x y : Rule) → (v ≡ true → P x) → (v ≡ false → P y) → P (if v then x else y)
@@ -34,7 +35,7 @@ quote_there s operand h zero = false≢true (subst (λ (b : ℕ). (b == 34 || (b
 
 begins_token : (c : Context) (s : List ℕ) → Begins s (rule_of_token c s)
 begins_token c s =
-    chosen (Begins s) (is_letter (slice_index s 0)) Word _ (λ _. tt) (λ _.
+    chosen (Begins s) (is_letter (slice_index s 0)) Word _ (λ e. e) (λ _.
     chosen (Begins s) (is_digit (slice_index s 0) || (slice_index s 0 == 46 && is_digit (slice_index s 1))) Number _ (starts_cases s _ refl) (λ _.
     chosen (Begins s) (slice_index s 0 == 34 || (slice_index s 0 == 39 && not c.operand)) Words Op (quote_there s c.operand) (λ _. tt)))
 
@@ -59,6 +60,9 @@ begins c s =
     chosen (Begins s) (slice_index s 0 == 37) (rule_of_comment c s) (from_dots c s)
     (λ _. chosen (Begins s) (c.fresh && starts_mark 123 s) Block Comment (λ _. tt) (λ _. tt)) (λ _.
     chosen (Begins s) (starts_dots s) Continued (rule_of_token c s) (λ _. tt) (λ _. begins_token c s)))))
+
+pub word_begins : (c : Context) (s : List ℕ) → rule_at c s ≡ Word → is_letter (slice_index s 0) ≡ true
+word_begins c s e = subst (Begins s) e (begins c s)
 
 one_byte : (c : Context) (s : List ℕ) (n : ℕ) → n ≤ length s → Some 1 ≡ Some n → Longest c Newline s n
 one_byte c s n within e = record { within = within; is = some_is 1 n (Some 1) refl e; most = λ m fits is. omega (arith, is, some_is 1 n (Some 1) refl e) }

@@ -2,6 +2,7 @@
 use Rattle.std.specs.Prelude.{◌≡◌, ◌≢◌, ℕ, ◌+◌, ◌-◌, ◌≤◌, false, List, [], ◌∷◌, ◌++◌, length, slice_index, IsTrue}
 use Rattle.std.specs.List.{AllByRecursion}
 use Rattle.fic_base.specs.Decimal.{IsDecimal}
+use Rattle.fic_base.specs.Names.{IsName}
 use Rattle.mat_token.specs.declared.token.Kind.TheVariants as kind
 use Rattle.mat_token.specs.declared.token.Token.{Token}
 use Rattle.mat_token.specs.Lexeme.{text_of}
@@ -12,10 +13,11 @@ pub record IsNumberText (text : List ℕ) : Type 0 where
   pub real : is_unit (slice_index text (length text - 1)) ≡ false → IsDecimal text
   pub imaginary : (digits : List ℕ) (unit : ℕ) → IsTrue (is_unit unit) → text ≡ digits ++ unit ∷ [] → IsDecimal digits
 
--- a token lies in the source, and a number is written as one
+-- a token lies in the source, and a number and a name are written as such
 pub record IsTokenOf (bytes : List ℕ) (t : Token) : Type 0 where
   pub within : t.place.offset + t.len ≤ length bytes
   pub number : t.kind ≡ kind.Number → IsNumberText (text_of bytes t)
+  pub name : t.kind ≡ kind.Name → IsName (text_of bytes t)
 
 -- the last token is the only one of the kind Finish
 abbrev pub EndsOnce : List Token → Type 0
