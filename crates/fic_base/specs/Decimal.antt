@@ -16,6 +16,7 @@ pub data MantissaTo (s : List ℕ) (to : ℕ) : Type 0 where
 abbrev pub is_exponent_letter : ℕ → Bool
 is_exponent_letter b = b == 101 || (b == 69 || (b == 100 || b == 68))
 
+-- `+` or `-`
 abbrev pub is_sign : ℕ → Bool
 is_sign b = b == 43 || b == 45
 

@@ -10,6 +10,7 @@ use Rattle.mat_ast.specs.Tree.{Exp, Number, Words, Name, Apply, End, Unary, Bina
 abbrev pub IsInSource : Place → Type 0
 IsInSource at = at.offset ≤ 1048576
 
+-- each of the names stands in a source
 abbrev pub AreInSource : List Ident → Type 0
 AreInSource [] = Unit {0}
 AreInSource (name ∷ names) = IsInSource name.place × AreInSource names
@@ -66,6 +67,7 @@ abbrev mutual
 abbrev pub KeepsFun : Fun → Type 0
 KeepsFun f = IsInSource f.name.place × AreInSource f.inputs × AreInSource f.outputs × KeepsBlock f.body
 
+-- each of the functions keeps it
 abbrev pub KeepsFuns : List Fun → Type 0
 KeepsFuns [] = Unit {0}
 KeepsFuns (f ∷ fs) = KeepsFun f × KeepsFuns fs

@@ -28,17 +28,20 @@ begins_operand kind.Keyword text rest = bytes_eq text (codes "end")
 begins_operand kind.Op text rest = op_begins_operand text rest
 begins_operand _ text rest = false
 
--- the open brackets after a token, the innermost first; a closing one closes the innermost
+-- the open brackets without the innermost one
 abbrev pub closed : List ℕ → List ℕ
 closed [] = []
 closed (b ∷ outer) = outer
 
+-- `(` or `[`
 abbrev pub is_opening : List ℕ → Bool
 is_opening text = bytes_eq text (codes "(") || bytes_eq text (codes "[")
 
+-- `)` or `]`
 abbrev pub is_closing : List ℕ → Bool
 is_closing text = bytes_eq text (codes ")") || bytes_eq text (codes "]")
 
+-- the open brackets after a token, the innermost first; a closing one closes the innermost
 abbrev pub open_after : List ℕ → List ℕ → List ℕ
 open_after brackets text =
     if is_opening text then slice_index text 0 ∷ brackets
@@ -49,9 +52,11 @@ abbrev pub is_separated : List ℕ → List ℕ → Bool → Token → Bool
 is_separated bytes brackets operand t =
     slice_index brackets 0 == 91 && (operand && (t.blank_before && begins_operand t.kind (text_of bytes t) (behind bytes t)))
 
+-- the separator before the token at a place
 abbrev pub separator_at : Place → Token
 separator_at at = record { place = at; len = 0; kind = kind.Separator; blank_before = true }
 
+-- a token, with a separator before it or without
 abbrev pub with_separator : Bool → Token → List Token
 with_separator separated t = if separated then separator_at t.place ∷ t ∷ [] else t ∷ []
 

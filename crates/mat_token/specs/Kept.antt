@@ -25,6 +25,7 @@ EndsOnce [] = ⊥
 EndsOnce (t ∷ []) = t.kind ≡ kind.Finish
 EndsOnce (t ∷ u ∷ ts) = (t.kind ≢ kind.Finish) × EndsOnce (u ∷ ts)
 
+-- the tokens of a source that is not too long
 pub record AreTokensOf (bytes : List ℕ) (ts : List Token) : Type 0 where
   pub short : length bytes ≤ 1048576
   pub each : AllByRecursion (IsTokenOf bytes) ts

@@ -60,6 +60,7 @@ exponent_len s =
 abbrev pub unit_len : List ℕ → ℕ
 unit_len s = if (slice_index s 0 == 105 || slice_index s 0 == 106) && not (is_name_byte (slice_index s 1)) then 1 else 0
 
+-- a number without its `i` or `j`
 abbrev pub real_len : List ℕ → ℕ
 real_len s = mantissa_len s + exponent_len (drop (mantissa_len s) s)
 

@@ -33,6 +33,7 @@ place_after at text = fold next_place at text
 abbrev pub hex_digit : ℕ → ℕ
 hex_digit d = if nat_lt d 10 then 48 + d else 87 + d
 
+-- the two digits of a byte
 abbrev pub hex : ℕ → List ℕ
 hex b = hex_digit (b / 16) ∷ hex_digit (b % 16) ∷ []
 
@@ -48,6 +49,7 @@ code_of Word = Limit
 code_of Words = Unclosed
 code_of _ = BadByte
 
+-- that refusal
 abbrev pub refusal_of : Rule → Place → List ℕ → Refusal
 refusal_of rule at s = record { code = code_of rule; place = at; shown = shown_of rule s }
 
@@ -91,10 +93,11 @@ abbrev pub RefusesOnly : Stop Refusal → (Refusal → Type 0) → Type 0
 RefusesOnly (Refused r) P = P r
 RefusesOnly Memory P = Unit {0}
 
--- before the first byte
+-- the place of the first byte
 abbrev pub first_place : Place
 first_place = record { offset = 0; line = 1; col = 1 }
 
+-- what is known before the first byte
 abbrev pub first_context : Context
 first_context = record { fresh = true; gap = false; operand = false; depth = 0; opening = first_place }
 

@@ -39,6 +39,7 @@ rule_at c s =
 abbrev pub is_keyword : List ℕ → Bool
 is_keyword word = list_any (bytes_eq word) keywords
 
+-- a word is a keyword or a name
 abbrev pub word_kind : List ℕ → Kind
 word_kind text = if is_keyword text then kind.Keyword else kind.Name
 

@@ -20,6 +20,7 @@ takes_point b = b == 42 || (b == 47 || (b == 92 || (b == 94 || b == 39)))
 abbrev pub point_belongs : List ℕ → ℕ → Bool
 point_belongs s k = not (takes_point (slice_index s (k + 1))) && not (slice_index s (k + 1) == 46 && slice_index s (k + 2) == 46)
 
+-- a point of a number, behind its first digit, belongs to it
 abbrev pub KeepsPoint : List ℕ → ℕ → Type 0
 KeepsPoint s to = (k : ℕ) → 0 < k → k < to → slice_index s k ≡ 46 → IsTrue (point_belongs s k)
 
