@@ -14,10 +14,12 @@ onto_last [] f st = refl
 onto_last (g ∷ fs) f st = onto_last fs f (frame_view g ∷ st)
 
 pub stack_last : (fs : List Frame) (f : Frame) → stack_of (fs ++ f ∷ []) ≡ frame_view f ∷ stack_of fs
+unfolding stack_of
 stack_last fs f = onto_last fs f []
 
 pub popped : (r : Option Frame) (old new : List Frame) → MatchOption r ((old ≡ []) × (new ≡ [])) (λ last. old ≡ new ++ last ∷ [])
     → MatchOption r ((stack_of old ≡ []) × (stack_of new ≡ [])) (λ f. stack_of old ≡ frame_view f ∷ stack_of new)
+unfolding stack_of
 popped None old new h = (ap stack_of h.0, ap stack_of h.1)
 popped (Some f) old new h = ap stack_of h ∙ stack_last new f
 

@@ -258,11 +258,11 @@ settle r e [] = record { is = e; under = [] }
 settle r e (f ∷ st) = if nat_lt r (level f) then settle r (closed f e) st else record { is = e; under = f ∷ st }
 
 -- where an argument is read
-abbrev pub caller_stack : Caller → Place → List ℕ → Place → Args → Stack
+unfoldable pub caller_stack : Caller → Place → List ℕ → Place → Args → Stack
 caller_stack (InValue st k) at text opens args = Call at text opens args ∷ st
 caller_stack (InStatement u) at text opens args = []
 
-abbrev pub caller_purpose : Caller → Place → List ℕ → Place → Args → Purpose
+unfoldable pub caller_purpose : Caller → Place → List ℕ → Place → Args → Purpose
 caller_purpose (InValue st k) at text opens args = k
 caller_purpose (InStatement u) at text opens args = Argument u at text opens args
 
@@ -271,47 +271,47 @@ abbrev pub need_in : Caller → Place → List ℕ → Place → Args → State
 need_in c at text opens args = Need (caller_stack c at text opens args) (caller_purpose c at text opens args)
 
 -- behind the arguments of a statement
-abbrev pub used : Use → Place → List ℕ → Place → Args → State
+unfoldable pub used : Use → Place → List ℕ → Place → Args → State
 used (Target b out) at text opens NoArgs = Stuck
 used (Target b out) at text opens args = Subscripted b (ident_at at text) opens args out
 used (Callee b targets out) at text opens args = After (with_statement b (Multi targets (Apply at text opens args))) out
 
 -- behind the arguments of a name
-abbrev pub applied : Caller → Place → List ℕ → Place → Args → State
+unfoldable pub applied : Caller → Place → List ℕ → Place → Args → State
 applied (InValue st k) at text opens args = Have (Apply at text opens args) st k
 applied (InStatement u) at text opens args = used u at text opens args
 
 -- a word behind an argument
-abbrev pub argued : Word → Exp → Caller → Place → List ℕ → Place → Args → State
+unfoldable pub argued : Word → Exp → Caller → Place → List ℕ → Place → Args → State
 argued word.Close e c at text opens args = applied c at text opens (with_item args e)
 argued word.Comma e c at text opens args = need_in c at text opens (with_item args e)
 argued _ e c at text opens args = Stuck
 
-abbrev pub with_sign : Place → UnOp → Stack → Purpose → State
+unfoldable pub with_sign : Place → UnOp → Stack → Purpose → State
 with_sign at sign st k = if nat_le (top st) 8 then Need (Sign at sign ∷ st) k else Need (ExponentSign at sign ∷ st) k
 
-abbrev pub with_infix : Place → Option UnOp → Stack → Purpose → State
+unfoldable pub with_infix : Place → Option UnOp → Stack → Purpose → State
 with_infix at (Some sign) st k = with_sign at sign st k
 with_infix at None st k = Stuck
 
-abbrev pub with_text : Place → Option (List ℕ) → Stack → Purpose → State
+unfoldable pub with_text : Place → Option (List ℕ) → Stack → Purpose → State
 with_text at (Some text) st k = Have (Words at text) st k
 with_text at None st k = Stuck
 
-abbrev pub with_end : Place → Stack → Purpose → State
+unfoldable pub with_end : Place → Stack → Purpose → State
 with_end at st k = if inside st k then Have (End at) st k else Stuck
 
-abbrev pub argument_colon : Purpose → State
+unfoldable pub argument_colon : Purpose → State
 argument_colon (Argument u at text opens args) = Listed (InStatement u) at text opens (with_whole args)
 argument_colon _ = Stuck
 
-abbrev pub with_colon_item : Stack → Purpose → State
+unfoldable pub with_colon_item : Stack → Purpose → State
 with_colon_item (Call at text opens args ∷ st) k = Listed (InValue st k) at text opens (with_whole args)
 with_colon_item [] k = argument_colon k
 with_colon_item _ k = Stuck
 
 -- a word where an operand has to come; own is its token's text
-abbrev pub need : Place → Word → List ℕ → Stack → Purpose → State
+unfoldable pub need : Place → Word → List ℕ → Stack → Purpose → State
 need at word.Number own st k = Have (Number at (digits_of own) (has_unit own)) st k
 need at word.Quoted own st k = with_text at (unquoted own) st k
 need at word.Name own st k = Have (Name at own) st k
@@ -323,36 +323,36 @@ need at word.End own st k = with_end at st k
 need at word.Colon own st k = with_colon_item st k
 need at _ own st k = Stuck
 
-abbrev pub begun : Caller → Place → List ℕ → Place → Place → Word → List ℕ → State
+unfoldable pub begun : Caller → Place → List ℕ → Place → Place → Word → List ℕ → State
 begun c name text opens at word.Close own = applied c name text opens NoArgs
 begun c name text opens at w own = need at w own (caller_stack c name text opens NoArgs) (caller_purpose c name text opens NoArgs)
 
-abbrev pub listed : Caller → Place → List ℕ → Place → Args → Word → State
+unfoldable pub listed : Caller → Place → List ℕ → Place → Args → Word → State
 listed c name text opens args word.Close = applied c name text opens args
 listed c name text opens args word.Comma = need_in c name text opens args
 listed c name text opens args _ = Stuck
 
-abbrev pub between : Place → Rows → Place → Word → List ℕ → Stack → Purpose → State
+unfoldable pub between : Place → Rows → Place → Word → List ℕ → Stack → Purpose → State
 between opens rows at word.Semicolon own st k = Between opens rows st k
 between opens rows at word.Newline own st k = Between opens rows st k
 between opens rows at word.Comma own st k = Bare opens rows st k
 between opens rows at word.CloseSquare own st k = Have (Matrix opens rows) st k
 between opens rows at w own st k = need at w own (Cells opens rows RowEnd ∷ st) k
 
-abbrev pub bare : Place → Rows → Word → Stack → Purpose → State
+unfoldable pub bare : Place → Rows → Word → Stack → Purpose → State
 bare opens rows word.Semicolon st k = Between opens rows st k
 bare opens rows word.Newline st k = Between opens rows st k
 bare opens rows word.CloseSquare st k = Have (Matrix opens rows) st k
 bare opens rows _ st k = Stuck
 
-abbrev pub gap : Place → Rows → Row → Place → Word → List ℕ → Stack → Purpose → State
+unfoldable pub gap : Place → Rows → Row → Place → Word → List ℕ → Stack → Purpose → State
 gap opens rows row at word.Semicolon own st k = Between opens (with_row rows row) st k
 gap opens rows row at word.Newline own st k = Between opens (with_row rows row) st k
 gap opens rows row at word.CloseSquare own st k = Have (Matrix opens (with_row rows row)) st k
 gap opens rows row at w own st k = need at w own (Cells opens rows row ∷ st) k
 
 -- a word behind an element of a row; row has the element
-abbrev pub celled : Word → Place → Rows → Row → Stack → Purpose → State
+unfoldable pub celled : Word → Place → Rows → Row → Stack → Purpose → State
 celled word.Comma opens rows row st k = Gap opens rows row st k
 celled word.Separator opens rows row st k = Need (Cells opens rows row ∷ st) k
 celled word.Semicolon opens rows row st k = Between opens (with_row rows row) st k
@@ -361,44 +361,44 @@ celled word.CloseSquare opens rows row st k = Have (Matrix opens (with_row rows 
 celled _ opens rows row st k = Stuck
 
 -- the body of a function ends
-abbrev pub body_end : Mode → List Fun → State
+unfoldable pub body_end : Mode → List Fun → State
 body_end mode.Unended fs = Stuck
 body_end _ fs = Top mode.Ended fs
 
-abbrev pub body_next : Mode → List Fun → State
+unfoldable pub body_next : Mode → List Fun → State
 body_next mode.Ended fs = Stuck
 body_next _ fs = Heading mode.Unended fs
 
-abbrev pub body_finish : Mode → List Fun → State
+unfoldable pub body_finish : Mode → List Fun → State
 body_finish mode.Ended fs = Stuck
 body_finish _ fs = Complete fs
 
-abbrev pub arm_ended : Word → Block → Place → Arms → Around → State
+unfoldable pub arm_ended : Word → Block → Place → Arms → Around → State
 arm_ended word.ElseIf before at arms out = Need [] (ArmTest before at arms out)
 arm_ended word.Else before at arms out = Within Done (ElseBody before at arms out)
 arm_ended word.End before at arms out = After (with_statement before (IfOnly at arms)) out
 arm_ended _ before at arms out = Stuck
 
 -- an `end`, behind which this statement is read
-abbrev pub statement_ended : Word → Block → Sta → Around → State
+unfoldable pub statement_ended : Word → Block → Sta → Around → State
 statement_ended word.End before s out = After (with_statement before s) out
 statement_ended _ before s out = Stuck
 
-abbrev pub body_ended : Word → Mode → List Fun → State
+unfoldable pub body_ended : Word → Mode → List Fun → State
 body_ended word.End mode fs = body_end mode fs
 body_ended word.Function mode fs = body_next mode fs
 body_ended word.Finish mode fs = body_finish mode fs
 body_ended _ mode fs = Stuck
 
 -- a word that ends a block
-abbrev pub block_ended : Word → Block → Around → State
+unfoldable pub block_ended : Word → Block → Around → State
 block_ended w b (IfBody before at arms condition out) = arm_ended w before at (with_arm arms condition b) out
 block_ended w b (ElseBody before at arms out) = statement_ended w before (IfElse at arms b) out
 block_ended w b (WhileBody before at condition out) = statement_ended w before (WhileTrue at condition b) out
 block_ended w b (ForBody before at to range out) = statement_ended w before (ForEach at to range b) out
 block_ended w b (FunBody mode fs h) = body_ended w mode (with_fun fs h b)
 
-abbrev pub within : Place → Word → List ℕ → Block → Around → State
+unfoldable pub within : Place → Word → List ℕ → Block → Around → State
 within at word.Newline own b out = Within b out
 within at word.Semicolon own b out = Within b out
 within at word.Comma own b out = Within b out
@@ -411,14 +411,14 @@ within at word.Break own b out = After (with_statement b (BreakOff at)) out
 within at word.Continue own b out = After (with_statement b (GoOn at)) out
 within at w own b out = block_ended w b out
 
-abbrev pub after : Word → Block → Around → State
+unfoldable pub after : Word → Block → Around → State
 after word.Newline b out = Within b out
 after word.Semicolon b out = Within b out
 after word.Comma b out = Within b out
 after w b out = block_ended w b out
 
 -- a word behind a whole expression
-abbrev pub purposed : Place → Word → List ℕ → Exp → Purpose → State
+unfoldable pub purposed : Place → Word → List ℕ → Exp → Purpose → State
 purposed at w own e (AssignTo b to out) = after w (with_statement b (Assign to e)) out
 purposed at w own e (StoreTo b to opens args out) = after w (with_statement b (Store to opens args e)) out
 purposed at w own e (ArmTest b place arms out) = within at w own Done (IfBody b place arms e out)
@@ -426,31 +426,31 @@ purposed at w own e (WhileTest b place out) = within at w own Done (WhileBody b 
 purposed at w own e (ForRange b place to out) = within at w own Done (ForBody b place to e out)
 purposed at w own e (Argument u name text opens args) = argued w e (InStatement u) name text opens args
 
-abbrev pub closing : Word → Exp → Place → Stack → Purpose → State
+unfoldable pub closing : Word → Exp → Place → Stack → Purpose → State
 closing word.Close e opens st k = Have (Paren opens e) st k
 closing _ e opens st k = Stuck
 
 -- a word that ends an operand
-abbrev pub ended : Place → Word → List ℕ → Exp → Stack → Purpose → State
+unfoldable pub ended : Place → Word → List ℕ → Exp → Stack → Purpose → State
 ended at w own e [] k = purposed at w own e k
 ended at w own e (Inside opens ∷ st) k = closing w e opens st k
 ended at w own e (Call name text opens args ∷ st) k = argued w e (InValue st k) name text opens args
 ended at w own e (Cells opens rows row ∷ st) k = celled w opens rows (with_cell row e) st k
 ended at w own e _ k = Stuck
 
-abbrev pub with_operator : Place → BinOp → Exp → Stack → Purpose → State
+unfoldable pub with_operator : Place → BinOp → Exp → Stack → Purpose → State
 with_operator at op e st k = if nat_le (rank op) (rank_of e) then Need (Right at op e ∷ st) k else Stuck
 
-abbrev pub with_turn : Place → PostOp → Exp → Stack → Purpose → State
+unfoldable pub with_turn : Place → PostOp → Exp → Stack → Purpose → State
 with_turn at mark e st k = if nat_le 10 (rank_of e) then Have (Post at mark e) st k else Stuck
 
-abbrev pub with_to : Place → Exp → Stack → Purpose → State
+unfoldable pub with_to : Place → Exp → Stack → Purpose → State
 with_to at e st k = if nat_le 6 (rank_of e) then Need (To at e ∷ st) k else Stuck
 
-abbrev pub with_by : Place → Exp → Exp → Stack → Purpose → State
+unfoldable pub with_by : Place → Exp → Exp → Stack → Purpose → State
 with_by opens first e st k = if nat_le 6 (rank_of e) then Need (ByTo opens first e ∷ st) k else Stuck
 
-abbrev pub with_colon : Place → Exp → Stack → Purpose → State
+unfoldable pub with_colon : Place → Exp → Stack → Purpose → State
 with_colon at e (To opens first ∷ st) k = with_by opens first e st k
 with_colon at e (ByTo opens first step ∷ st) k = Stuck
 with_colon at e (Right opens op a ∷ st) k = if nat_le (rank op + 1) 5 then with_to at e (Right opens op a ∷ st) k else Stuck
@@ -458,65 +458,65 @@ with_colon at e (Sign opens sign ∷ st) k = Stuck
 with_colon at e (ExponentSign opens sign ∷ st) k = Stuck
 with_colon at e st k = with_to at e st k
 
-abbrev pub with_open : Place → Exp → Stack → Purpose → State
+unfoldable pub with_open : Place → Exp → Stack → Purpose → State
 with_open at (Name place text) st k = Begun (InValue st k) place text at
 with_open at _ st k = Stuck
 
 -- a word behind an operand that it doesn't end
-abbrev pub have : Place → Word → List ℕ → Exp → Stack → Purpose → State
+unfoldable pub have : Place → Word → List ℕ → Exp → Stack → Purpose → State
 have at (word.Infix op) own e st k = with_operator at op e st k
 have at (word.Turn mark) own e st k = with_turn at mark e st k
 have at word.Open own e st k = with_open at e st k
 have at word.Colon own e st k = with_colon at e st k
 have at w own e st k = ended at w own e st k
 
-abbrev pub named : Word → Place → Block → Ident → Around → State
+unfoldable pub named : Word → Place → Block → Ident → Around → State
 named word.Equal at b to out = Need [] (AssignTo b to out)
 named word.Open at b to out = Need [] (Argument (Target b out) to.place to.text at NoArgs)
 named _ at b to out = Stuck
 
-abbrev pub subscripted : Word → Block → Ident → Place → Args → Around → State
+unfoldable pub subscripted : Word → Block → Ident → Place → Args → Around → State
 subscripted word.Equal b to opens args out = Need [] (StoreTo b to opens args out)
 subscripted _ b to opens args out = Stuck
 
-abbrev pub targeted : Word → Block → List Ident → Around → State
+unfoldable pub targeted : Word → Block → List Ident → Around → State
 targeted word.Equal b targets out = Calling b targets out
 targeted _ b targets out = Stuck
 
-abbrev pub calling : Place → Word → List ℕ → Block → List Ident → Around → State
+unfoldable pub calling : Place → Word → List ℕ → Block → List Ident → Around → State
 calling at word.Name own b targets out = Called b targets at own out
 calling at _ own b targets out = Stuck
 
-abbrev pub called : Place → Word → Block → List Ident → Place → List ℕ → Around → State
+unfoldable pub called : Place → Word → Block → List Ident → Place → List ℕ → Around → State
 called at word.Open b targets name text out = Begun (InStatement (Callee b targets out)) name text at
 called at w b targets name text out = after w (with_statement b (Multi targets (Name name text))) out
 
-abbrev pub looping : Place → Word → List ℕ → Block → Place → Around → State
+unfoldable pub looping : Place → Word → List ℕ → Block → Place → Around → State
 looping at word.Name own b for_at out = Looped b for_at (ident_at at own) out
 looping at _ own b for_at out = Stuck
 
-abbrev pub looped : Word → Block → Place → Ident → Around → State
+unfoldable pub looped : Word → Block → Place → Ident → Around → State
 looped word.Equal b at to out = Need [] (ForRange b at to out)
 looped _ b at to out = Stuck
 
 -- behind a bracket of names
-abbrev pub names_closed : Lister → List Ident → State
+unfoldable pub names_closed : Lister → List Ident → State
 names_closed (Outputs mode fs) names = HeadOut mode fs names
 names_closed (Targets b out) names = Targeted b names out
 
-abbrev pub edge : Place → Word → List ℕ → Lister → State
+unfoldable pub edge : Place → Word → List ℕ → Lister → State
 edge at word.Name own l = Listing l (ident_at at own ∷ [])
 edge at word.Comma own l = EdgeComma l
 edge at word.Semicolon own l = Edge l
 edge at word.Newline own l = Edge l
 edge at _ own l = Stuck
 
-abbrev pub edge_comma : Word → Lister → State
+unfoldable pub edge_comma : Word → Lister → State
 edge_comma word.Semicolon l = Edge l
 edge_comma word.Newline l = Edge l
 edge_comma _ l = Stuck
 
-abbrev pub listing : Word → Lister → List Ident → State
+unfoldable pub listing : Word → Lister → List Ident → State
 listing word.Comma l names = ListComma l names
 listing word.Separator l names = ListNext l names
 listing word.Semicolon l names = Tail l names
@@ -524,31 +524,31 @@ listing word.Newline l names = Tail l names
 listing word.CloseSquare l names = names_closed l names
 listing _ l names = Stuck
 
-abbrev pub list_comma : Place → Word → List ℕ → Lister → List Ident → State
+unfoldable pub list_comma : Place → Word → List ℕ → Lister → List Ident → State
 list_comma at word.Name own l names = Listing l (names ++ ident_at at own ∷ [])
 list_comma at word.Semicolon own l names = Tail l names
 list_comma at word.Newline own l names = Tail l names
 list_comma at word.CloseSquare own l names = names_closed l names
 list_comma at _ own l names = Stuck
 
-abbrev pub list_next : Place → Word → List ℕ → Lister → List Ident → State
+unfoldable pub list_next : Place → Word → List ℕ → Lister → List Ident → State
 list_next at word.Name own l names = Listing l (names ++ ident_at at own ∷ [])
 list_next at _ own l names = Stuck
 
-abbrev pub tail : Word → Lister → List Ident → State
+unfoldable pub tail : Word → Lister → List Ident → State
 tail word.Comma l names = TailComma l names
 tail word.Semicolon l names = Tail l names
 tail word.Newline l names = Tail l names
 tail word.CloseSquare l names = names_closed l names
 tail _ l names = Stuck
 
-abbrev pub tail_comma : Word → Lister → List Ident → State
+unfoldable pub tail_comma : Word → Lister → List Ident → State
 tail_comma word.Semicolon l names = Tail l names
 tail_comma word.Newline l names = Tail l names
 tail_comma word.CloseSquare l names = names_closed l names
 tail_comma _ l names = Stuck
 
-abbrev pub between_functions : Word → Mode → List Fun → State
+unfoldable pub between_functions : Word → Mode → List Fun → State
 between_functions word.Newline mode fs = Top mode fs
 between_functions word.Semicolon mode fs = Top mode fs
 between_functions word.Comma mode fs = Top mode fs
@@ -556,21 +556,21 @@ between_functions word.Function mode fs = Heading mode fs
 between_functions word.Finish mode fs = Complete fs
 between_functions _ mode fs = Stuck
 
-abbrev pub heading : Place → Word → List ℕ → Mode → List Fun → State
+unfoldable pub heading : Place → Word → List ℕ → Mode → List Fun → State
 heading at word.Name own mode fs = HeadOut mode fs (ident_at at own ∷ [])
 heading at word.OpenSquare own mode fs = Edge (Outputs mode fs)
 heading at _ own mode fs = Stuck
 
-abbrev pub head_out : Word → Mode → List Fun → List Ident → State
+unfoldable pub head_out : Word → Mode → List Fun → List Ident → State
 head_out word.Equal mode fs outputs = HeadEqual mode fs outputs
 head_out _ mode fs outputs = Stuck
 
-abbrev pub head_equal : Place → Word → List ℕ → Mode → List Fun → List Ident → State
+unfoldable pub head_equal : Place → Word → List ℕ → Mode → List Fun → List Ident → State
 head_equal at word.Name own mode fs outputs = HeadName mode fs outputs (ident_at at own)
 head_equal at _ own mode fs outputs = Stuck
 
 -- behind a whole header
-abbrev pub headed : Word → Mode → List Fun → Header → State
+unfoldable pub headed : Word → Mode → List Fun → Header → State
 headed word.Newline mode fs h = Within Done (FunBody mode fs h)
 headed word.Semicolon mode fs h = Within Done (FunBody mode fs h)
 headed word.Comma mode fs h = Within Done (FunBody mode fs h)
@@ -579,21 +579,21 @@ headed _ mode fs h = Stuck
 abbrev pub header_of : List Ident → Ident → List Ident → Header
 header_of outputs name inputs = record { outputs = outputs; name = name; inputs = inputs }
 
-abbrev pub head_name : Word → Mode → List Fun → List Ident → Ident → State
+unfoldable pub head_name : Word → Mode → List Fun → List Ident → Ident → State
 head_name word.Open mode fs outputs name = Params mode fs outputs name
 head_name w mode fs outputs name = headed w mode fs (header_of outputs name [])
 
-abbrev pub params : Place → Word → List ℕ → Mode → List Fun → List Ident → Ident → State
+unfoldable pub params : Place → Word → List ℕ → Mode → List Fun → List Ident → Ident → State
 params at word.Name own mode fs outputs name = Param mode fs (header_of outputs name (ident_at at own ∷ []))
 params at word.Close own mode fs outputs name = Headed mode fs (header_of outputs name [])
 params at _ own mode fs outputs name = Stuck
 
-abbrev pub param : Word → Mode → List Fun → Header → State
+unfoldable pub param : Word → Mode → List Fun → Header → State
 param word.Comma mode fs h = ParamComma mode fs h
 param word.Close mode fs h = Headed mode fs h
 param _ mode fs h = Stuck
 
-abbrev pub param_comma : Place → Word → List ℕ → Mode → List Fun → Header → State
+unfoldable pub param_comma : Place → Word → List ℕ → Mode → List Fun → Header → State
 param_comma at word.Name own mode fs h = Param mode fs (header_of h.outputs h.name (h.inputs ++ ident_at at own ∷ []))
 param_comma at _ own mode fs h = Stuck
 

@@ -22,7 +22,7 @@ use Rattle.mat_parse.specs.declared.pending.Reading.TheVariants as reading
 use Rattle.mat_parse.specs.Machine as machine
 use Rattle.mat_parse.specs.Machine.{Sign, ExponentSign, Right, Inside, Call, To, ByTo, Cells, Stack, IfBody, ElseBody, WhileBody, ForBody, FunBody, Target, Callee, AssignTo, StoreTo, ArmTest, WhileTest, ForRange, Argument, InValue, InStatement, Outputs, Targets, State, Need, Begun, Listed, Between, Bare, Gap, Have, Within, After, Named, Subscripted, Targeted, Calling, Called, Looping, Looped, Edge, EdgeComma, Listing, ListComma, ListNext, Tail, TailComma, Top, Heading, HeadOut, HeadEqual, HeadName, Params, Param, ParamComma, Headed, Complete, Stuck, header_of}
 
-abbrev pub frame_view : Frame → machine.Frame
+unfoldable pub frame_view : Frame → machine.Frame
 frame_view (frame.Sign at sign) = Sign at sign
 frame_view (frame.ExponentSign at sign) = ExponentSign at sign
 frame_view (frame.Right at op a) = Right at op (expr_view a.expr)
@@ -37,13 +37,13 @@ abbrev pub onto : List Frame → Stack → Stack
 onto [] st = st
 onto (f ∷ fs) st = onto fs (frame_view f ∷ st)
 
-abbrev pub stack_of : List Frame → Stack
+unfoldable pub stack_of : List Frame → Stack
 stack_of fs = onto fs []
 
-abbrev pub header_view : Header → machine.Header
+unfoldable pub header_view : Header → machine.Header
 header_view h = header_of h.outputs h.name h.inputs
 
-abbrev pub body_view : Body → machine.Around → machine.Around
+unfoldable pub body_view : Body → machine.Around → machine.Around
 body_view (body.If before at cases condition) out = IfBody (block_view before.body) at (arms_view cases.arms) (expr_view condition.expr) out
 body_view (body.Else before at cases) out = ElseBody (block_view before.body) at (arms_view cases.arms) out
 body_view (body.While before at condition) out = WhileBody (block_view before.body) at (expr_view condition.expr) out
@@ -54,14 +54,14 @@ abbrev pub within_bodies : List Body → machine.Around → machine.Around
 within_bodies [] out = out
 within_bodies (b ∷ bs) out = within_bodies bs (body_view b out)
 
-abbrev pub around_view : Around → machine.Around
+unfoldable pub around_view : Around → machine.Around
 around_view a = within_bodies a.bodies (FunBody a.mode (funcs_view a.done.funcs.items) (header_view a.header))
 
-abbrev pub use_view : Use → machine.Use
+unfoldable pub use_view : Use → machine.Use
 use_view (used.Target before out) = Target (block_view before.body) (around_view out)
 use_view (used.Callee before targets out) = Callee (block_view before.body) targets (around_view out)
 
-abbrev pub purpose_view : Purpose → machine.Purpose
+unfoldable pub purpose_view : Purpose → machine.Purpose
 purpose_view (purpose.Assign before to out) = AssignTo (block_view before.body) to (around_view out)
 purpose_view (purpose.Store before to opens given out) = StoreTo (block_view before.body) to opens (args_view given.args) (around_view out)
 purpose_view (purpose.Arm before at cases out) = ArmTest (block_view before.body) at (arms_view cases.arms) (around_view out)
@@ -69,15 +69,15 @@ purpose_view (purpose.While before at out) = WhileTest (block_view before.body) 
 purpose_view (purpose.For before at to out) = ForRange (block_view before.body) at to (around_view out)
 purpose_view (purpose.Argument u opened given) = Argument (use_view u) opened.place opened.text opened.opens (args_view given.args)
 
-abbrev pub caller_view : Caller → machine.Caller
+unfoldable pub caller_view : Caller → machine.Caller
 caller_view (caller.Value pending) = InValue (stack_of pending.frames) (purpose_view pending.purpose)
 caller_view (caller.Statement u) = InStatement (use_view u)
 
-abbrev pub lister_view : Lister → machine.Lister
+unfoldable pub lister_view : Lister → machine.Lister
 lister_view (lister.Outputs mode funcs) = Outputs mode (funcs_view funcs.funcs.items)
 lister_view (lister.Targets before out) = Targets (block_view before.body) (around_view out)
 
-abbrev pub state_view : Reading → State
+unfoldable pub state_view : Reading → State
 state_view (reading.Need p) = Need (stack_of p.frames) (purpose_view p.purpose)
 state_view (reading.Begun c opened) = Begun (caller_view c) opened.place opened.text opened.opens
 state_view (reading.Listed c opened given) = Listed (caller_view c) opened.place opened.text opened.opens (args_view given.args)

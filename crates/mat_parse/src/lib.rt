@@ -6,7 +6,7 @@ ghost use Rattle.mat_token.specs.Lexeme.{Lexeme};
 ghost use Rattle.mat_parse.specs.Grammar.{IsLive, IsShallow};
 
 mod body;
-mod expression;
+mod names;
 mod part;
 mod pending;
 mod stack;

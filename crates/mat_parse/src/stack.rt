@@ -33,6 +33,7 @@ pub fn rank(op: BinOp) -> u32
     }
 }
 
+#[tactic(auto, unfolding(crate::specs::Pending::frame_view))]
 fn level(frame: &Frame) -> u32
     ensures { result ≡ level (frame_view frame.now) }
 {
@@ -49,6 +50,7 @@ fn level(frame: &Frame) -> u32
 }
 
 /// The expression with its frame round it. Want of memory is its only refusal.
+#[tactic(auto, unfolding(crate::specs::Pending::frame_view))]
 pub fn close(alloc: Global, frame: Frame, part: Part) -> Result<Part, AllocError>
     ensures { IfOk result (λ made. expr_view made.expr ≡ closed (frame_view frame) (expr_view part.expr)) }
 {
@@ -86,6 +88,7 @@ pub fn pop(stack: &mut Items<Frame>) -> Option<Frame>
 }
 
 /// From which rank on operators go below the top frame.
+#[tactic(auto, unfolding(crate::specs::Pending::stack_of))]
 pub fn top(frames: &[Frame]) -> u32
     ensures { result ≡ top (stack_of frames.now) }
 {
@@ -96,6 +99,7 @@ pub fn top(frames: &[Frame]) -> u32
 }
 
 /// Closes each frame that a word of this tightness ends. Want of memory is its only refusal.
+#[tactic(auto, unfolding(crate::specs::Pending::stack_of))]
 pub fn settle(
     alloc: Global,
     rank: u32,
@@ -116,6 +120,7 @@ pub fn settle(
     }
 }
 
+#[tactic(auto, unfolding(crate::specs::Pending::purpose_view))]
 fn is_argument(purpose: &Purpose) -> bool
     ensures { result ≡ for_argument (purpose_view purpose.now) }
 {
@@ -125,6 +130,7 @@ fn is_argument(purpose: &Purpose) -> bool
     }
 }
 
+#[tactic(auto, unfolding(crate::specs::Pending::frame_view))]
 fn is_call(frame: &Frame) -> bool
     ensures { result ≡ is_call (frame_view frame.now) }
 {
@@ -135,6 +141,7 @@ fn is_call(frame: &Frame) -> bool
 }
 
 /// Whether the parentheses of a name stand round an operand there.
+#[tactic(auto, unfolding(crate::specs::Pending::stack_of))]
 pub fn is_inside(frames: &[Frame], purpose: &Purpose) -> bool
     ensures { result ≡ inside (stack_of frames.now) (purpose_view purpose.now) }
 {
@@ -150,6 +157,7 @@ pub fn is_inside(frames: &[Frame], purpose: &Purpose) -> bool
 }
 
 /// An operand is owed below one more frame. Want of memory is its only refusal.
+#[tactic(auto, unfolding(crate::specs::Pending::state_view))]
 pub fn wait(pending: Pending, frame: Frame) -> Result<Option<Reading>, AllocError>
     ensures { IfOk result (λ next. Goes next (Need (frame_view frame ∷ stack_of pending.frames) (purpose_view pending.purpose))) }
 {
