@@ -1,4 +1,4 @@
-use Rattle.std.proofs.Common.{◌≡◌, ℤ, Option, None, sym, subst}
+use Rattle.std.proofs.Common.{ℤ, Option, None, sym, subst}
 use Rattle.num_type.specs.Decimals.{ReadsDecimal}
 use Rattle.num_type.proofs.Decimals.{read_nothing, none_left}
 use Rattle.num_type.proofs.decimal.read_decimal.Goals as goal

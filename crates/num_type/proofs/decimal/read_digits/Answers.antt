@@ -1,4 +1,4 @@
-use Rattle.std.proofs.Common.{◌≡◌, List, ℕ, [], ◌∷◌, length, sym, ap, ◌∙◌, subst, arith, Option, None}
+use Rattle.std.proofs.Common.{◌≡◌, ℕ, [], ◌∷◌, length, sym, ap, ◌∙◌, subst, arith, Option, None}
 use Rattle.num_type.specs.Decimals.{ReadsDigits, ReadsValue}
 use Rattle.num_type.proofs.Decimals.{read_empty, read_leading, read_canonical, none_left}
 use Rattle.num_type.proofs.decimal.read_digits.Goals as goal

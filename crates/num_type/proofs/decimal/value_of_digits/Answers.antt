@@ -1,6 +1,5 @@
-use Rattle.std.proofs.Common.{◌≡◌, ◌≤◌, ◌+◌, ◌*◌, ◌<◌, ◌^◌, ℕ, suc, drop, get_or, length, sym, ◌∙◌, arith}
+use Rattle.std.proofs.Common.{◌+◌, ◌*◌, ℕ, suc, drop, get_or, sym, ◌∙◌, arith}
 use Rattle.std.specs.Char.{digit_value}
-use Rattle.std.specs.Str.Parse.{AllDigits, digits_value, digits_value_after}
 use Rattle.num_type.proofs.Decimals.{value_grows, value_step, value_end}
 use Rattle.num_type.proofs.decimal.value_of_digits.Goals as goal
 
