@@ -16,3 +16,6 @@ pub use mem_sink::MemSink;
 pub use shelf::{Shelf, ShelfFault};
 pub use sink::{Failed, Sink};
 pub use streams::{ErrSink, OutSink};
+
+#[cfg(test)]
+mod tests;
