@@ -4,3 +4,4 @@ pub mod Taken
 pub mod Ranges
 pub mod Full
 pub mod Parts
+pub mod Stored

@@ -202,7 +202,7 @@ size_between p z h = record { least = omega (arith, ints); most = omega (arith, 
 signed_size : (w : ℕ) (f z : ℤ) → IsInRange (typed true w f) z → nat_abs z ≤ 2 ^ (w - 1)
 signed_size w f z h = omega (arith, ints, h.least, h.most)
 
-any_size : (s : Bool) (w : ℕ) (f z : ℤ) → 1 ≤ w → IsInRange (typed s w f) z → nat_abs z < 2 ^ w
+pub any_size : (s : Bool) (w : ℕ) (f z : ℤ) → 1 ≤ w → IsInRange (typed s w f) z → nat_abs z < 2 ^ w
 any_size true w f z one h = let m = signed_size w f z h in omega (arith, double w one, pow_pos (w - 1))
 any_size false w f z one h = omega (arith, ints, h.least, h.most, pow_pos w)
 

@@ -11,10 +11,11 @@ pub record ComplexElement : Type 0 where
   pub re : ℤ
   pub im : ℤ
 
--- the two parts as elements
+-- the real part as an element
 abbrev pub real_of : ComplexElement → Element
 real_of a = record { num = a.num; z = a.re }
 
+-- and the imaginary one
 abbrev pub imaginary_of : ComplexElement → Element
 imaginary_of a = record { num = a.num; z = a.im }
 

@@ -1,5 +1,6 @@
 pub mod Elements
 pub mod Operations
 pub mod Complex
+pub mod Bits
 pub mod View
 pub mod Parts

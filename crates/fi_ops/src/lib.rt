@@ -1,6 +1,7 @@
 //! Operations on elements of fixed-point arrays.
 #![tactic(auto)]
 
+mod bits;
 mod complex;
 mod elem;
 mod laws;
@@ -13,6 +14,9 @@ mod sums;
 mod tables;
 mod whole;
 
+pub use bits::{
+    bit_and, bit_concat, bit_not, bit_or, bit_slice, bit_sll, bit_sra, bit_srl, bit_xor,
+};
 pub use complex::{cadd, cmul, conj, csub};
 pub use elem::Elem;
 pub use laws::{full_differences_are_exact, full_products_are_exact, full_sums_are_exact};

@@ -335,3 +335,91 @@ fn accumulates(rt: HostRuntime) {
         None => assert!(rt; false),
     }
 }
+
+/// An operation on bits.
+#[derive(Clone, Copy)]
+enum BitCall {
+    Sll(u32),
+    Srl(u32),
+    Sra(u32),
+    Not,
+    Slice(u32, u32),
+}
+
+/// Whether an operation on bits gives what a table states.
+fn gives_bits(call: BitCall, a: Parts, want: Parts) -> bool {
+    match element(a) {
+        Some(a) => gives_bits_of(call, a, want),
+        None => false,
+    }
+}
+
+fn gives_bits_of(call: BitCall, a: Elem, want: Parts) -> bool {
+    let word = a.num.word();
+    match call {
+        BitCall::Sll(k) => k < word && is(bit_sll(a, k), want),
+        BitCall::Srl(k) => k < word && is(bit_srl(a, k), want),
+        BitCall::Sra(k) => k < word && is(bit_sra(a, k), want),
+        BitCall::Not => is(bit_not(a), want),
+        BitCall::Slice(left, right) => 1 <= right
+            && right <= left
+            && left <= word
+            && is(bit_slice(a, left, right), want),
+    }
+}
+
+#[test]
+fn moves_bits(rt: HostRuntime) {
+    let minus = (true, 8, 0, true, 5);
+    for (call, a, want) in [
+        (BitCall::Sra(1), minus, (true, 8, 0, true, 3)),
+        (BitCall::Srl(1), minus, (true, 8, 0, false, 125)),
+        (
+            BitCall::Sll(1),
+            (true, 8, 0, false, 100),
+            (true, 8, 0, true, 56),
+        ),
+        (BitCall::Not, (true, 8, 0, false, 5), (true, 8, 0, true, 6)),
+        (
+            BitCall::Not,
+            (false, 8, 0, false, 5),
+            (false, 8, 0, false, 250),
+        ),
+        (
+            BitCall::Slice(6, 3),
+            (false, 8, 0, false, 180),
+            (false, 4, 0, false, 13),
+        ),
+    ] {
+        assert!(rt; gives_bits(call, a, want));
+    }
+}
+
+/// Whether the bits of two elements side by side are those stated.
+fn concatenates(a: Parts, b: Parts, want: Parts) -> bool {
+    match (element(a), element(b)) {
+        (Some(a), Some(b)) => match bit_concat(a, b) {
+            Some(e) => is(e, want),
+            None => false,
+        },
+        _ => false,
+    }
+}
+
+#[test]
+fn joins_bits(rt: HostRuntime) {
+    assert!(rt;
+        concatenates(
+            (true, 4, 0, true, 1),
+            (false, 4, 0, false, 3),
+            (false, 8, 0, false, 243)
+        )
+    );
+    assert!(rt;
+        !concatenates(
+            (true, 64, 0, true, 1),
+            (false, 4, 0, false, 3),
+            (false, 68, 0, false, 0)
+        )
+    );
+}
