@@ -50,8 +50,8 @@ pub step_quote : (own : List ℕ) (at q : ℕ) (text new : List ℕ) (X : Option
     → option_map (λ more. text ++ more) (undoubled q (drop at own)) ≡ X → option_map (λ more. new ++ more) (undoubled q (drop (at + 2) own)) ≡ X
 step_quote own at q text new X lt e f k h =
     let same : drop at own ≡ get_or own at 0 ∷ get_or own at 0 ∷ drop (at + 2) own =
-        here own at (omega arith) ∙ ap (λ x. get_or own at 0 ∷ x) (here own (at + 1) lt)
-        ∙ ap (λ x. get_or own at 0 ∷ x ∷ drop (at + 1 + 1) own) (f ∙ sym e)
-        ∙ ap (λ n. get_or own at 0 ∷ get_or own at 0 ∷ drop n own) (let s : at + 1 + 1 ≡ at + 2 = omega arith in s) in
+    here own at (omega arith) ∙ ap (λ x. get_or own at 0 ∷ x) (here own (at + 1) lt)
+    ∙ ap (λ x. get_or own at 0 ∷ x ∷ drop (at + 1 + 1) own) (f ∙ sym e)
+    ∙ ap (λ n. get_or own at 0 ∷ get_or own at 0 ∷ drop n own) (let s : at + 1 + 1 ≡ at + 2 = omega arith in s) in
     with_new text new (get_or own at 0) (undoubled q (drop (at + 2) own)) X k
     (ap (option_map (λ x. text ++ x)) (sym (ap (undoubled q) same ∙ quote_step q (get_or own at 0) (drop (at + 2) own) (eq-eqb (get_or own at 0) q e))) ∙ h)

@@ -301,7 +301,6 @@ celled_holds at _ own opens rows row e st k all m ts h x = tt
 
 -- Ends of blocks
 
-
 -- functions with one more, whose parts were read
 ended_function : (fs : List Fun) (h : Header) (b : Block) (all m m' m'' ts : List Lexeme) → (many separator ▸ functions true fs ▸ keyword (codes "function")) all m → (header_read h ▸ separator) m m' → block b m' m'' → keyword (codes "end") m'' ts
     → (many separator ▸ functions true (with_fun fs h b)) all ts

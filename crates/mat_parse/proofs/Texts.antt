@@ -108,6 +108,7 @@ unquoted_spelled (q ∷ cs) text h = split (nat_eq q 39) (nat_eq q 34) refl refl
   where
     with_quote : (r : ℕ) → q ≡ r → undoubled q cs ≡ Some text → q ∷ cs ≡ quoted r text
     with_quote r e k = subst (λ (x : ℕ). q ∷ cs ≡ quoted x text) e (ap (λ y. q ∷ y) (undoubled_spelled q cs text k))
+
     split : (a b : Bool) → nat_eq q 39 ≡ a → nat_eq q 34 ≡ b → (if a || b then undoubled q cs else None) ≡ Some text → (q ∷ cs ≡ quoted 39 text) ⊎ (q ∷ cs ≡ quoted 34 text)
     split true b e f k = inl (with_quote 39 (eqb-true q 39 e) k)
     split false true e f k = inr (with_quote 34 (eqb-true q 34 f) k)

@@ -44,11 +44,127 @@ looked_spelled (w ∷ ws) k other at text f h = split (looked_spelled ws k other
     split ih false e = ih
 
 fixed_operators : Fixed kind.Op operators
-fixed_operators =
-    (refl, λ _. refl, (refl, λ _. refl, (refl, λ _. refl, (refl, λ _. refl, (refl, λ _. refl, (refl, λ _. refl, (refl, λ _. refl, (refl, λ _. refl, (refl, λ _. refl, (refl, λ _. refl,
-    (refl, λ _. refl, (refl, λ _. refl, (refl, λ _. refl, (refl, λ _. refl, (refl, λ _. refl, (refl, λ _. refl, (refl, λ _. refl, (refl, λ _. refl, (refl, λ _. refl, (refl, λ _. refl,
-    (refl, λ _. refl, (refl, λ _. refl, (refl, λ _. refl, (refl, λ _. refl, (refl, λ _. refl, (refl, λ _. refl, (refl, λ _. refl, (refl, λ _. refl, (refl, λ _. refl, (refl, λ _. refl,
-    (refl, λ _. refl, tt)))))))))))))))))))))))))))))))
+fixed_operators = (
+  refl,
+  λ _. refl,
+  (
+    refl,
+    λ _. refl,
+    (
+      refl,
+      λ _. refl,
+      (
+        refl,
+        λ _. refl,
+        (
+          refl,
+          λ _. refl,
+          (
+            refl,
+            λ _. refl,
+            (
+              refl,
+              λ _. refl,
+              (
+                refl,
+                λ _. refl,
+                (
+                  refl,
+                  λ _. refl,
+                  (
+                    refl,
+                    λ _. refl,
+                    (
+                      refl,
+                      λ _. refl,
+                      (
+                        refl,
+                        λ _. refl,
+                        (
+                          refl,
+                          λ _. refl,
+                          (
+                            refl,
+                            λ _. refl,
+                            (
+                              refl,
+                              λ _. refl,
+                              (
+                                refl,
+                                λ _. refl,
+                                (
+                                  refl,
+                                  λ _. refl,
+                                  (
+                                    refl,
+                                    λ _. refl,
+                                    (
+                                      refl,
+                                      λ _. refl,
+                                      (
+                                        refl,
+                                        λ _. refl,
+                                        (
+                                          refl,
+                                          λ _. refl,
+                                          (
+                                            refl,
+                                            λ _. refl,
+                                            (
+                                              refl,
+                                              λ _. refl,
+                                              (
+                                                refl,
+                                                λ _. refl,
+                                                (
+                                                  refl,
+                                                  λ _. refl,
+                                                  (
+                                                    refl,
+                                                    λ _. refl,
+                                                    (
+                                                      refl,
+                                                      λ _. refl,
+                                                      (
+                                                        refl,
+                                                        λ _. refl,
+                                                        (
+                                                          refl,
+                                                          λ _. refl,
+                                                          (
+                                                            refl,
+                                                            λ _. refl,
+                                                            (refl, λ _. refl, tt),
+                                                          ),
+                                                        ),
+                                                      ),
+                                                    ),
+                                                  ),
+                                                ),
+                                              ),
+                                            ),
+                                          ),
+                                        ),
+                                      ),
+                                    ),
+                                  ),
+                                ),
+                              ),
+                            ),
+                          ),
+                        ),
+                      ),
+                    ),
+                  ),
+                ),
+              ),
+            ),
+          ),
+        ),
+      ),
+    ),
+  ),
+)
 
 fixed_keywords : Fixed kind.Keyword keywords
 fixed_keywords = (refl, λ _. refl, (refl, λ _. refl, (refl, λ _. refl, (refl, λ _. refl, (refl, λ _. refl, (refl, λ _. refl, (refl, λ _. refl, (refl, λ _. refl, (refl, λ _. refl, tt)))))))))

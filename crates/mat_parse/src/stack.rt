@@ -6,7 +6,9 @@ ghost use Rattle.mat_parse.specs.Grammar.{rank};
 ghost use Rattle.mat_parse.specs.Machine.{closed, settle, level, top, Need, for_argument, is_call, inside};
 ghost use Rattle.mat_parse.specs.Pending.{frame_view, stack_of, purpose_view, Goes};
 
-use crate::part::{Part, and_cell, and_item, and_row, apply, binary, matrix, paren, range, range_by, unary};
+use crate::part::{
+    Part, and_cell, and_item, and_row, apply, binary, matrix, paren, range, range_by, unary,
+};
 use crate::pending::{Frame, Pending, Purpose, Reading};
 use mat_ast::BinOp;
 use sqlite_items::Items;
