@@ -1,5 +1,5 @@
 -- Depths of lists with one more.
-use Rattle.std.proofs.Common.{◌≡◌, ℕ, ◌+◌, ◌≤◌, max, List, [], ◌∷◌, ◌++◌, arith, refl}
+use Rattle.std.proofs.Common.{◌≡◌, max, List, [], ◌∷◌, ◌++◌, arith, refl}
 use Rattle.mat_ast.specs.Tree.{Exp, Args, NoArgs, Whole, Item, Row, RowEnd, Cell, Rows, NoRows, RowOn, Sta, Arms, NoArms, Arm, Block, Done, Next, Fun}
 use Rattle.mat_ast.specs.Depth.{depth, args_depth, row_depth, rows_depth, sta_depth, arms_depth, block_depth, file_depth}
 use Rattle.mat_parse.specs.Machine.{with_item, with_whole, with_cell, with_row, with_statement, with_arm}

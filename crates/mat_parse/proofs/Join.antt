@@ -1,8 +1,7 @@
 -- Token lists in a row.
-use Rattle.std.proofs.Common.{◌≡◌, ℕ, ◌+◌, zero, suc, List, [], ◌∷◌, refl, sym, subst}
-use Rattle.std.specs.Prelude.{◌⊎◌}
+use Rattle.std.proofs.Common.{ℕ, zero, suc, List, refl, sym, subst}
 use Rattle.mat_token.specs.Lexeme.{Lexeme}
-use Rattle.mat_parse.specs.Lang.{Lang, Joined, ◌▸◌, times, many}
+use Rattle.mat_parse.specs.Lang.{Lang, Joined, times, many}
 
 pub join : {F G : Lang} {ts rest : List Lexeme} (m : List Lexeme) → F ts m → G m rest → Joined F G ts rest
 join m a b = record { middle = m; before = a; after = b }

@@ -3,8 +3,14 @@ pub mod Join
 pub mod Texts
 pub mod ReadUp
 pub mod Sound
-pub mod Depths
-pub mod Views
 pub mod Settle
-pub mod Stacks
+pub mod Depths
+pub mod Complete
+pub mod CompleteFile
+pub mod Deeper
+pub mod Ends
+pub mod Refusals
+pub mod Decide
+pub mod Views
 pub mod Scans
+pub mod Stacks

@@ -1,20 +1,18 @@
 -- What was read up to each state.
-use Rattle.std.proofs.Common.{◌≡◌, ◌≢◌, ℕ, ◌+◌, ◌<◌, ◌≤◌, Bool, true, false, List, [], ◌∷◌, ◌++◌, refl, sym, subst, ⊎_elim, inl, inr}
-use Rattle.std.specs.Prelude.{◌⊎◌, codes}
+use Rattle.std.proofs.Common.{◌≡◌, ◌≢◌, ◌≤◌, Bool, true, false, List, [], ◌∷◌, ◌++◌, refl, sym, subst}
+use Rattle.std.specs.Prelude.{codes}
 use Rattle.fic_base.specs.declared.place.Place.{Place}
-use Rattle.mat_ast.specs.declared.tree.UnOp.{UnOp}
-use Rattle.mat_ast.specs.declared.tree.BinOp.{BinOp}
 use Rattle.mat_ast.specs.declared.tree.Ident.{Ident}
 use Rattle.mat_ast.specs.Tree.{Exp, Args, NoArgs, Whole, Item, Row, RowEnd, Cell, Rows, NoRows, RowOn, Sta, Arms, NoArms, Arm, Block, Done, Next, Fun}
 use Rattle.mat_token.specs.declared.token.Kind.TheVariants as kind
 use Rattle.mat_token.specs.Lexeme.{Lexeme}
-use Rattle.mat_parse.specs.Lang.{Lang, Joined, ◌▸◌, ◌or◌, nothing, never, given, maybe, many, one_at, any_of, op, op_at, keyword, keyword_at}
+use Rattle.mat_parse.specs.Lang.{Lang, ◌▸◌, ◌or◌, nothing, never, given, maybe, many, one_at, any_of, op, op_at, keyword, keyword_at}
 use Rattle.mat_parse.specs.Spelling.{unary_text, binary_text}
-use Rattle.mat_parse.specs.Grammar.{rank, expression, exponent, arguments, more_arguments, comma, row_break, bracket_end, cells, more_cells, matrix, more_rows, separator, ident, more_idents, idents, name_list, statement, first_arm, more_arms, block, more_statements, header_inputs, header_outputs, header, function_end, function, functions}
+use Rattle.mat_parse.specs.Grammar.{rank, expression, exponent, arguments, more_arguments, comma, row_break, cells, more_cells, matrix, more_rows, separator, ident, more_idents, idents, name_list, statement, first_arm, more_arms, block, more_statements, header_outputs, header, function, functions}
 use Rattle.mat_parse.specs.declared.word.Mode.{Mode}
 use Rattle.mat_parse.specs.declared.word.Mode.TheVariants as mode
-use Rattle.mat_parse.specs.Machine.{Frame, Sign, ExponentSign, Right, Inside, Call, To, ByTo, Cells, Stack, Header, Around, IfBody, ElseBody, WhileBody, ForBody, FunBody, Use, Target, Callee, Purpose, AssignTo, StoreTo, ArmTest, WhileTest, ForRange, Argument, Caller, InValue, InStatement, Lister, Outputs, Targets, State, Need, Begun, Listed, Between, Bare, Gap, Have, Within, After, Named, Subscripted, Targeted, Calling, Called, Looping, Looped, Edge, EdgeComma, Listing, ListComma, ListNext, Tail, TailComma, Top, Heading, HeadOut, HeadEqual, HeadName, Params, Param, ParamComma, Headed, Complete, Stuck, top, and_then, and_cells, and_rows, and_block, and_arms, with_item, with_whole, with_cell, with_row, with_statement, with_arm, inside}
-use Rattle.mat_parse.proofs.Join.{join, under, push, many_none, many_first, many_last}
+use Rattle.mat_parse.specs.Machine.{Sign, ExponentSign, Right, Inside, Call, To, ByTo, Cells, Stack, Header, Around, IfBody, ElseBody, WhileBody, ForBody, FunBody, Use, Target, Callee, Purpose, AssignTo, StoreTo, ArmTest, WhileTest, ForRange, Argument, Caller, InValue, InStatement, Lister, Outputs, Targets, State, Need, Begun, Listed, Between, Bare, Gap, Have, Within, After, Named, Subscripted, Targeted, Calling, Called, Looping, Looped, Edge, EdgeComma, Listing, ListComma, ListNext, Tail, TailComma, Top, Heading, HeadOut, HeadEqual, HeadName, Params, Param, ParamComma, Headed, Complete, Stuck, top, and_then, with_item, with_whole, with_cell, with_row, with_statement, with_arm, inside}
+use Rattle.mat_parse.proofs.Join.{join, many_none, many_first, many_last}
 
 -- arguments, each with the comma behind it
 abbrev pub read_args : Args → Lang

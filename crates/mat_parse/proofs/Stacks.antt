@@ -1,5 +1,5 @@
 -- Frames and bodies of the code, as contracts see them.
-use Rattle.std.proofs.Common.{◌≡◌, ℕ, ◌+◌, ◌<◌, ◌≤◌, Bool, true, false, List, [], ◌∷◌, ◌++◌, refl, ap, sym, ◌∙◌, subst}
+use Rattle.std.proofs.Common.{◌≡◌, ℕ, ◌<◌, true, false, List, [], ◌∷◌, ◌++◌, refl, ap, sym, ◌∙◌, subst}
 use Rattle.std.specs.Prelude.{MatchOption, Option, Some, None, OnOk, Result, Ok, Err}
 use Rattle.mat_parse.specs.declared.pending.Frame.{Frame}
 use Rattle.mat_parse.specs.declared.pending.Body.{Body}

@@ -1,8 +1,8 @@
 -- Lists of the code with one more, as contracts see them.
-use Rattle.std.proofs.Common.{◌≡◌, ℕ, List, [], ◌∷◌, ◌++◌, refl, ap, sym, ◌∙◌, map, max, Option, Some, None}
+use Rattle.std.proofs.Common.{◌≡◌, List, [], ◌∷◌, ◌++◌, refl, ap, sym, ◌∙◌, map, max, Option, Some, None}
 use Rattle.fic_base.specs.declared.place.Place.{Place}
 use Rattle.mat_ast.specs.declared.tree.Expr.{Expr}
-use Rattle.mat_ast.specs.declared.tree.Arg.{Arg, fold-Arg, fold-roll-Arg}
+use Rattle.mat_ast.specs.declared.tree.Arg.{Arg, fold-roll-Arg}
 use Rattle.mat_ast.specs.declared.tree.Arg.TheVariants as arg
 use Rattle.mat_ast.specs.declared.tree.Arg.TheVariants.{rolls-Item, rolls-All}
 use Rattle.mat_ast.specs.declared.tree.Row.{roll-Row, fold-roll-Row}
@@ -10,7 +10,7 @@ use Rattle.mat_ast.specs.declared.tree.Row as row
 use Rattle.mat_ast.specs.declared.tree.Stmt.{Stmt}
 use Rattle.mat_ast.specs.declared.tree.Arm.{roll-Arm, fold-roll-Arm}
 use Rattle.mat_ast.specs.declared.tree.Arm as arm
-use Rattle.mat_ast.specs.Tree.{Exp, Args, Row, RowEnd, Cell, Rows, Sta, Block, Arms}
+use Rattle.mat_ast.specs.Tree.{Exp, Args, Row, Cell, Rows, Sta, Block, Arms}
 use Rattle.mat_ast.specs.declared.tree.Func.{Func}
 use Rattle.mat_ast.specs.Depth.{block_depth, file_depth}
 use Rattle.mat_parse.proofs.Depths.{file_depth_fun}

@@ -1,12 +1,8 @@
 -- Each token is spelled as its word says.
-use Rattle.std.proofs.Common.{◌≡◌, ℕ, Bool, true, false, List, [], ◌∷◌, refl, ap, sym, ◌∙◌, subst}
+use Rattle.std.proofs.Common.{◌≡◌, ℕ, Bool, true, false, List, [], ◌∷◌, refl, ap, sym, ◌∙◌}
 use Rattle.std.specs.Prelude.{◌&&◌, nat_eq, if◌then◌else◌}
 use Rattle.std.proofs.lemmas.Bool.{eqb-true}
 use Rattle.fic_base.specs.declared.place.Place.{Place}
-use Rattle.mat_ast.specs.declared.tree.BinOp.{BinOp}
-use Rattle.mat_ast.specs.declared.tree.BinOp.TheVariants as bin
-use Rattle.mat_ast.specs.declared.tree.PostOp.{PostOp}
-use Rattle.mat_ast.specs.declared.tree.PostOp.TheVariants as post
 use Rattle.mat_token.specs.declared.token.Kind.{Kind}
 use Rattle.mat_token.specs.declared.token.Kind.TheVariants as kind
 use Rattle.mat_token.specs.Lexeme.{Lexeme}

@@ -3,5 +3,7 @@ pub mod Spelling
 pub mod Grammar
 pub mod Words
 pub mod Machine
+pub mod Least
+pub mod Refused
 pub mod View
 pub mod Pending

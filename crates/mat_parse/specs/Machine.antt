@@ -1,5 +1,5 @@
 -- What is still owed behind each token: a machine that reads a file's tokens one by one.
-use Rattle.std.specs.Prelude.{Bool, true, false, ◌≡◌, ◌≤◌, ℕ, ◌+◌, max, List, [], ◌∷◌, ◌++◌, nat_lt, nat_le, if◌then◌else◌, Option, Some, None}
+use Rattle.std.specs.Prelude.{Bool, true, false, ℕ, ◌+◌, List, [], ◌∷◌, ◌++◌, nat_lt, nat_le, if◌then◌else◌, Option, Some, None}
 use Rattle.fic_base.specs.declared.place.Place.{Place}
 use Rattle.mat_ast.specs.declared.tree.UnOp.{UnOp}
 use Rattle.mat_ast.specs.declared.tree.UnOp.TheVariants as un
@@ -171,6 +171,11 @@ rank_of (Post at mark e) = 10
 rank_of (Range at first last) = 5
 rank_of (RangeBy at first step last) = 5
 rank_of _ = 11
+
+-- whether an expression is a name alone
+abbrev pub is_name : Exp → Bool
+is_name (Name at text) = true
+is_name _ = false
 
 -- lists of the tree, one after the other
 abbrev pub and_then : Args → Args → Args
@@ -430,13 +435,17 @@ unfoldable pub closing : Word → Exp → Place → Stack → Purpose → State
 closing word.Close e opens st k = Have (Paren opens e) st k
 closing _ e opens st k = Stuck
 
+-- a word that ends an operand in this frame
+unfoldable pub ended_in : Word → Exp → Frame → Stack → Purpose → State
+ended_in w e (Inside opens) st k = closing w e opens st k
+ended_in w e (Call name text opens args) st k = argued w e (InValue st k) name text opens args
+ended_in w e (Cells opens rows row) st k = celled w opens rows (with_cell row e) st k
+ended_in w e _ st k = Stuck
+
 -- a word that ends an operand
 unfoldable pub ended : Place → Word → List ℕ → Exp → Stack → Purpose → State
 ended at w own e [] k = purposed at w own e k
-ended at w own e (Inside opens ∷ st) k = closing w e opens st k
-ended at w own e (Call name text opens args ∷ st) k = argued w e (InValue st k) name text opens args
-ended at w own e (Cells opens rows row ∷ st) k = celled w opens rows (with_cell row e) st k
-ended at w own e _ k = Stuck
+ended at w own e (f ∷ st) k = ended_in w e f st k
 
 unfoldable pub with_operator : Place → BinOp → Exp → Stack → Purpose → State
 with_operator at op e st k = if nat_le (rank op) (rank_of e) then Need (Right at op e ∷ st) k else Stuck

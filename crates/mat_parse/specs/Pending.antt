@@ -1,5 +1,6 @@
 -- What the state of the parser stands for.
 use Rattle.std.specs.Prelude.{◌≡◌, List, [], ◌∷◌, Option, Some, None}
+use Rattle.mat_ast.specs.Tree.{Name}
 use Rattle.mat_ast.specs.View.{expr_view, args_view, rows_view, block_view, arms_view, funcs_view}
 use Rattle.mat_parse.specs.View.{cells_view}
 use Rattle.mat_parse.specs.declared.body.Header.{Header}
@@ -12,7 +13,6 @@ use Rattle.mat_parse.specs.declared.pending.Use.{Use}
 use Rattle.mat_parse.specs.declared.pending.Use.TheVariants as used
 use Rattle.mat_parse.specs.declared.pending.Purpose.{Purpose}
 use Rattle.mat_parse.specs.declared.pending.Purpose.TheVariants as purpose
-use Rattle.mat_parse.specs.declared.pending.Pending.{Pending}
 use Rattle.mat_parse.specs.declared.pending.Caller.{Caller}
 use Rattle.mat_parse.specs.declared.pending.Caller.TheVariants as caller
 use Rattle.mat_parse.specs.declared.pending.Lister.{Lister}
@@ -84,7 +84,8 @@ state_view (reading.Listed c opened given) = Listed (caller_view c) opened.place
 state_view (reading.Between at grid p) = Between at (rows_view grid.rows) (stack_of p.frames) (purpose_view p.purpose)
 state_view (reading.Bare at grid p) = Bare at (rows_view grid.rows) (stack_of p.frames) (purpose_view p.purpose)
 state_view (reading.Gap at grid line p) = Gap at (rows_view grid.rows) (cells_view line.cells) (stack_of p.frames) (purpose_view p.purpose)
-state_view (reading.Have part p) = Have (expr_view part.expr) (stack_of p.frames) (purpose_view p.purpose)
+state_view (reading.Have whole p) = Have (expr_view whole.part.expr) (stack_of p.frames) (purpose_view p.purpose)
+state_view (reading.HaveName at text p) = Have (Name at text) (stack_of p.frames) (purpose_view p.purpose)
 state_view (reading.Within steps out) = Within (block_view steps.body) (around_view out)
 state_view (reading.After steps out) = After (block_view steps.body) (around_view out)
 state_view (reading.Named steps to out) = Named (block_view steps.body) to (around_view out)

@@ -6,7 +6,6 @@ use Rattle.mat_ast.specs.declared.tree.UnOp.{UnOp}
 use Rattle.mat_ast.specs.declared.tree.UnOp.TheVariants as un
 use Rattle.mat_ast.specs.declared.tree.BinOp.{BinOp}
 use Rattle.mat_ast.specs.declared.tree.BinOp.TheVariants as bin
-use Rattle.mat_ast.specs.declared.tree.PostOp.{PostOp}
 use Rattle.mat_ast.specs.declared.tree.PostOp.TheVariants as post
 use Rattle.mat_token.specs.declared.token.Kind.{Kind}
 use Rattle.mat_token.specs.declared.token.Kind.TheVariants as kind

@@ -1,12 +1,14 @@
 //! Parts of a tree, with their depths.
 
-ghost use Rattle.std.specs.Prelude.{◌≡◌, ◌≤◌, ◌<◌, ◌+◌, ℕ, [], ◌∷◌, ◌++◌, IfOk, min, max};
+ghost use Rattle.std.specs.Prelude.{◌≡◌, ◌≤◌, ◌<◌, ◌+◌, ℕ, [], ◌∷◌, ◌++◌, IfOk, min, max, false};
 ghost use Rattle.mat_ast.specs.Tree.{Exp, Number, Words, Name, Apply, End, Unary, Binary, Post, Range, RangeBy, Paren, Matrix, NoArgs, RowEnd, NoRows};
 ghost use Rattle.mat_ast.specs.View.{expr_view, args_view, row_of, rows_view};
 ghost use Rattle.mat_ast.specs.Depth.{depth, args_depth, row_depth, rows_depth};
-ghost use Rattle.mat_parse.specs.Machine.{with_item, with_whole, with_cell, with_row};
+ghost use Rattle.mat_parse.specs.Grammar.{rank_with};
+ghost use Rattle.mat_parse.specs.Machine.{is_name, rank_of, with_item, with_whole, with_cell, with_row};
 ghost use Rattle.mat_parse.specs.View.{cells_view};
 
+use crate::rank::rank;
 use fic_base::{Place, Text};
 use mat_ast::{Arg, BinOp, Expr, PostOp, Row, UnOp};
 use sqlite_items::Items;
@@ -19,7 +21,10 @@ pub struct Part {
     pub expr: Expr,
     /// Its depth, at most 101.
     pub deep: u32,
+    /// Its level.
+    pub rank: u32,
     ghost sized: { deep ≡ min (depth (expr_view expr)) 101 },
+    ghost ranked: { rank ≡ rank_of (expr_view expr) },
 }
 
 /// Arguments and their depth, at most 101.
@@ -52,6 +57,14 @@ pub struct Grid {
     ghost sized: { deep ≡ min (rows_depth (rows_view rows)) 101 },
 }
 
+/// An expression that is no name alone.
+#[derive(Drop)]
+pub struct Compound {
+    /// The expression.
+    pub part: Part,
+    ghost compound: { is_name (expr_view part.expr) ≡ false },
+}
+
 /// The greater of two numbers.
 pub fn greater(a: u32, b: u32) -> u32
     ensures { result ≡ max a b }
@@ -73,6 +86,7 @@ pub fn number(place: Place, text: Text, imaginary: bool) -> Part
     Part {
         expr: mat_ast::number(place, text, imaginary),
         deep: 1,
+        rank: 11,
     }
 }
 
@@ -83,6 +97,7 @@ pub fn words(place: Place, text: Text) -> Part
     Part {
         expr: mat_ast::words(place, text),
         deep: 1,
+        rank: 11,
     }
 }
 
@@ -93,6 +108,7 @@ pub fn name(place: Place, text: Text) -> Part
     Part {
         expr: mat_ast::name(place, text),
         deep: 1,
+        rank: 11,
     }
 }
 
@@ -103,6 +119,7 @@ pub fn end(place: Place) -> Part
     Part {
         expr: mat_ast::end(place),
         deep: 1,
+        rank: 11,
     }
 }
 
@@ -112,7 +129,23 @@ pub fn unary(alloc: Global, place: Place, sign: UnOp, part: Part) -> Result<Part
 {
     let deep = deeper(part.deep);
     let expr = mat_ast::unary(alloc, place, sign, part.expr)?;
-    Ok(Part { expr, deep })
+    Ok(Part {
+        expr,
+        deep,
+        rank: 8,
+    })
+}
+
+/// The level of an operator with this right operand.
+fn joined_rank(op: BinOp, right: &Part) -> u32
+    ensures { result ≡ rank_with op (expr_view right.now.expr) }
+{
+    if rank(op) == 10 {
+        if right.rank == 8 {
+            return 9;
+        }
+    }
+    rank(op)
 }
 
 /// Two operands and their operator.
@@ -125,9 +158,10 @@ pub fn binary(
 ) -> Result<Part, AllocError>
     ensures { IfOk result (λ made. expr_view made.expr ≡ Binary place op (expr_view left.expr) (expr_view right.expr)) }
 {
+    let rank = joined_rank(op, &right);
     let deep = deeper(greater(left.deep, right.deep));
     let expr = mat_ast::binary(alloc, place, op, left.expr, right.expr)?;
-    Ok(Part { expr, deep })
+    Ok(Part { expr, deep, rank })
 }
 
 /// A transpose of an operand.
@@ -136,7 +170,11 @@ pub fn post(alloc: Global, place: Place, mark: PostOp, part: Part) -> Result<Par
 {
     let deep = deeper(part.deep);
     let expr = mat_ast::post(alloc, place, mark, part.expr)?;
-    Ok(Part { expr, deep })
+    Ok(Part {
+        expr,
+        deep,
+        rank: 10,
+    })
 }
 
 /// A range without a step.
@@ -145,7 +183,11 @@ pub fn range(alloc: Global, place: Place, first: Part, last: Part) -> Result<Par
 {
     let deep = deeper(greater(first.deep, last.deep));
     let expr = mat_ast::range(alloc, place, first.expr, last.expr)?;
-    Ok(Part { expr, deep })
+    Ok(Part {
+        expr,
+        deep,
+        rank: 5,
+    })
 }
 
 /// A range with a step.
@@ -160,7 +202,11 @@ pub fn range_by(
 {
     let deep = deeper(greater(first.deep, greater(step.deep, last.deep)));
     let expr = mat_ast::range_by(alloc, place, first.expr, step.expr, last.expr)?;
-    Ok(Part { expr, deep })
+    Ok(Part {
+        expr,
+        deep,
+        rank: 5,
+    })
 }
 
 /// An operand in parentheses.
@@ -169,7 +215,11 @@ pub fn paren(alloc: Global, place: Place, part: Part) -> Result<Part, AllocError
 {
     let deep = deeper(part.deep);
     let expr = mat_ast::paren(alloc, place, part.expr)?;
-    Ok(Part { expr, deep })
+    Ok(Part {
+        expr,
+        deep,
+        rank: 11,
+    })
 }
 
 /// A name with its parentheses.
@@ -178,7 +228,11 @@ pub fn apply(place: Place, text: Text, opens: Place, given: Given) -> Part
 {
     let deep = deeper(given.deep);
     let expr = mat_ast::apply(place, text, opens, given.args);
-    Part { expr, deep }
+    Part {
+        expr,
+        deep,
+        rank: 11,
+    }
 }
 
 /// A bracket of rows.
@@ -187,7 +241,11 @@ pub fn matrix(place: Place, grid: Grid) -> Part
 {
     let deep = deeper(grid.deep);
     let expr = mat_ast::matrix(place, grid.rows);
-    Part { expr, deep }
+    Part {
+        expr,
+        deep,
+        rank: 11,
+    }
 }
 
 /// No arguments.

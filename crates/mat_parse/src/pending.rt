@@ -1,7 +1,7 @@
 //! What was read of a file, and what waits for the rest.
 
 use crate::body::{Cases, Funcs, Header, Steps};
-use crate::part::{Given, Grid, Line, Part};
+use crate::part::{Compound, Given, Grid, Line, Part};
 use crate::word::Mode;
 use fic_base::{Place, Text};
 use mat_ast::{BinOp, Ident, UnOp};
@@ -133,8 +133,10 @@ pub enum Reading {
     Bare(Place, Grid, Pending),
     /// Behind a comma in a row.
     Gap(Place, Grid, Line, Pending),
-    /// An operand was read.
-    Have(Part, Pending),
+    /// An operand was read that is no name alone.
+    Have(Compound, Pending),
+    /// A name was read as an operand.
+    HaveName(Place, Text, Pending),
     /// A statement may come.
     Within(Steps, Around),
     /// Behind a statement.

@@ -2,7 +2,6 @@
 
 ghost use Rattle.std.specs.Prelude.{◌≡◌, ◌≤◌, ◌<◌, ◌+◌, ◌↔◌, [], ◌∷◌, IfOk, OnOk, MatchOption, IsTrue, true};
 ghost use Rattle.mat_ast.specs.View.{expr_view};
-ghost use Rattle.mat_parse.specs.Grammar.{rank};
 ghost use Rattle.mat_parse.specs.Machine.{closed, settle, level, top, Need, for_argument, is_call, inside};
 ghost use Rattle.mat_parse.specs.Pending.{frame_view, stack_of, purpose_view, Goes};
 
@@ -10,30 +9,9 @@ use crate::part::{
     Part, and_cell, and_item, and_row, apply, binary, matrix, paren, range, range_by, unary,
 };
 use crate::pending::{Frame, Pending, Purpose, Reading};
-use mat_ast::BinOp;
+use crate::rank::rank;
 use sqlite_items::Items;
 use std::alloc::{AllocError, Global};
-
-/// How tightly an operator binds.
-pub fn rank(op: BinOp) -> u32
-    ensures { result ≡ rank op }
-{
-    match op {
-        BinOp::OrOr => 0,
-        BinOp::AndAnd => 1,
-        BinOp::Or => 2,
-        BinOp::And => 3,
-        BinOp::Eq | BinOp::Ne | BinOp::Lt | BinOp::Le | BinOp::Gt | BinOp::Ge => 4,
-        BinOp::Add | BinOp::Sub => 6,
-        BinOp::Mul
-        | BinOp::ElemMul
-        | BinOp::Div
-        | BinOp::ElemDiv
-        | BinOp::LeftDiv
-        | BinOp::ElemLeftDiv => 7,
-        BinOp::Pow | BinOp::ElemPow => 10,
-    }
-}
 
 #[tactic(auto, unfolding(crate::specs::Pending::frame_view))]
 fn level(frame: &Frame) -> u32
