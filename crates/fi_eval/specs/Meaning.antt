@@ -1,0 +1,169 @@
+-- What expressions, statements and functions of a source do, over its tree and without inference.
+use Rattle.std.specs.Prelude.{ℕ, Bool, true, false, if◌then◌else◌, List, [], ◌∷◌, ◌++◌, map, Option, Some, None, bytes_eq}
+use Rattle.std.specs.List.{list_any}
+use Rattle.fic_base.specs.declared.place.Place.{Place}
+use Rattle.mat_ast.specs.declared.tree.Ident.{Ident}
+use Rattle.mat_ast.specs.Tree.{Exp, Number, Words, Name, Apply, End, Unary, Binary, Post, Range, RangeBy, Paren, Matrix, Sta, Assign, Store, Multi, IfOnly, IfElse, ForEach, WhileTrue, BreakOff, GoOn, Arms, NoArms, Arm, Block, Done, Next, Fun}
+use Rattle.fi_eval.specs.Outcome.{Got, Gives, Wrong, ◌>>=◌, or_wrong, when◌then◌else◌}
+use Rattle.fi_eval.specs.Value.{Val, Fi, ComplexFi, Logical}
+use Rattle.fi_eval.specs.Operators.{operated}
+
+-- names with their values, the newest first
+abbrev pub Env : Type 0
+Env = List (List ℕ × Val)
+
+abbrev pub look_up : {A : Type 0} → List (List ℕ × A) → List ℕ → Option A
+look_up [] name = None
+look_up (entry ∷ more) name = if bytes_eq entry.0 name then Some entry.1 else look_up more name
+
+-- the names that are variables throughout a function
+abbrev pub Variables : Type 0
+Variables = List (List ℕ)
+
+abbrev pub is_variable : Variables → List ℕ → Bool
+is_variable variables name = list_any (λ other. bytes_eq other name) variables
+
+-- the value of a variable at this place
+abbrev pub variable : Env → Place → List ℕ → Got Place Val
+variable env at name = or_wrong at (look_up env name)
+
+-- the value of an expression; a kind that isn't built yet is wrong at its place
+abbrev pub value : Exp → Variables → Env → Got Place Val
+value (Number at text imaginary) vs env = Wrong at
+value (Words at text) vs env = Wrong at
+value (Name at name) vs env = when is_variable vs name then variable env at name else Wrong at
+value (Apply at name opens args) vs env = Wrong at
+value (End at) vs env = Wrong at
+value (Unary at sign e) vs env = Wrong at
+value (Binary at operator a b) vs env = do
+  x ← value a vs env
+  y ← value b vs env
+  operated at operator x y
+value (Post at mark e) vs env = Wrong at
+value (Range at first last) vs env = Wrong at
+value (RangeBy at first step last) vs env = Wrong at
+value (Paren at e) vs env = value e vs env
+value (Matrix at rows) vs env = Wrong at
+
+-- where a statement leads: on, out of a loop, or to its next turn
+pub data Flow : Type 0 where
+  Went : Env → Flow
+  Broke : Env → Flow
+  Continued : Env → Flow
+
+abbrev pub env_of : Flow → Env
+env_of (Went env) = env
+env_of (Broke env) = env
+env_of (Continued env) = env
+
+-- on to the next statement, where the one before has not left the block
+abbrev pub then_do : Flow → (Env → Got Place Flow) → Got Place Flow
+then_do (Went env) next = next env
+then_do (Broke env) next = Gives (Broke env)
+then_do (Continued env) next = Gives (Continued env)
+
+-- the place of the first target
+abbrev pub first_place : List Ident → Place → Place
+first_place [] at = at
+first_place (name ∷ names) at = name.place
+
+abbrev pub place_of : Exp → Place
+place_of (Number at text imaginary) = at
+place_of (Words at text) = at
+place_of (Name at name) = at
+place_of (Apply at name opens args) = at
+place_of (End at) = at
+place_of (Unary at sign e) = at
+place_of (Binary at operator a b) = at
+place_of (Post at mark e) = at
+place_of (Range at first last) = at
+place_of (RangeBy at first step last) = at
+place_of (Paren at e) = at
+place_of (Matrix at rows) = at
+
+abbrev mutual
+  -- a statement, with at most n turns of each while; a kind that isn't built yet is wrong at its place
+  pub run : Sta → Variables → ℕ → Env → Got Place Flow
+  run (Assign to e) vs n env = value e vs env >>= (λ v. Gives (Went ((to.text, v) ∷ env)))
+  run (Store to opens args e) vs n env = Wrong to.place
+  run (Multi targets e) vs n env = Wrong (first_place targets (place_of e))
+  run (IfOnly at arms) vs n env = Wrong at
+  run (IfElse at arms other) vs n env = Wrong at
+  run (ForEach at to range body) vs n env = Wrong at
+  run (WhileTrue at test body) vs n env = Wrong at
+  run (BreakOff at) vs n env = Wrong at
+  run (GoOn at) vs n env = Wrong at
+
+  pub run_block : Block → Variables → ℕ → Env → Got Place Flow
+  run_block Done vs n env = Gives (Went env)
+  run_block (Next s more) vs n env = run s vs n env >>= (λ flow. then_do flow (run_block more vs n))
+
+-- ---- functions
+
+abbrev pub names_of : List Ident → List (List ℕ)
+names_of = map (λ name. name.text)
+
+-- of several functions of one name the first is meant
+abbrev pub function_named : List Fun → List ℕ → Option Fun
+function_named [] name = None
+function_named (f ∷ fs) name = if bytes_eq f.name.text name then Some f else function_named fs name
+
+abbrev mutual
+  -- the targets and loop variables of a statement
+  pub targets_of : Sta → List (List ℕ)
+  targets_of (Assign to e) = to.text ∷ []
+  targets_of (Store to opens args e) = to.text ∷ []
+  targets_of (Multi targets e) = names_of targets
+  targets_of (IfOnly at arms) = targets_of_arms arms
+  targets_of (IfElse at arms other) = targets_of_arms arms ++ targets_of_block other
+  targets_of (ForEach at to range body) = to.text ∷ targets_of_block body
+  targets_of (WhileTrue at test body) = targets_of_block body
+  targets_of (BreakOff at) = []
+  targets_of (GoOn at) = []
+
+  pub targets_of_arms : Arms → List (List ℕ)
+  targets_of_arms NoArms = []
+  targets_of_arms (Arm test body more) = targets_of_block body ++ targets_of_arms more
+
+  pub targets_of_block : Block → List (List ℕ)
+  targets_of_block Done = []
+  targets_of_block (Next s more) = targets_of s ++ targets_of_block more
+
+-- inputs, outputs, targets and loop variables
+abbrev pub variables_of : Fun → Variables
+variables_of f = names_of f.inputs ++ names_of f.outputs ++ targets_of_block f.body
+
+-- the inputs with their values, the last one of a name first; none where their numbers differ
+abbrev pub bound : List Ident → List Val → Env → Option Env
+bound [] [] env = Some env
+bound (name ∷ names) (v ∷ vs) env = bound names vs ((name.text, v) ∷ env)
+bound names vs env = None
+
+-- an entry's output is a fi or a logical
+unfoldable pub output : Place → Val → Got Place Val
+output at (Fi t m s xs) = Gives (Fi t m s xs)
+output at (ComplexFi t m s xs ys) = Gives (ComplexFi t m s xs ys)
+output at (Logical s xs) = Gives (Logical s xs)
+output at v = Wrong at
+
+abbrev pub outputs : List Ident → Env → Got Place (List Val)
+outputs [] env = Gives []
+outputs (name ∷ names) env = do
+  v ← variable env name.place name.text
+  w ← output name.place v
+  ws ← outputs names env
+  Gives (w ∷ ws)
+
+abbrev pub start : Place
+start = record { offset = 0; line = 1; col = 1 }
+
+-- an entry on these inputs
+abbrev pub entered : Fun → List Val → ℕ → Got Place (List Val)
+entered f vs n = do
+  env ← or_wrong f.name.place (bound f.inputs vs [])
+  flow ← run_block f.body (variables_of f) n env
+  outputs f.outputs (env_of flow)
+
+-- what a file does from an entry, where each while makes at most n turns
+abbrev pub evaluated : List Fun → List ℕ → List Val → ℕ → Got Place (List Val)
+evaluated fs entry vs n = or_wrong start (function_named fs entry) >>= (λ f. entered f vs n)

@@ -1,0 +1,2 @@
+//! What a source evaluates to.
+#![tactic(auto)]

@@ -1,0 +1,14 @@
+pub mod Ranges
+pub mod Says
+pub mod Exact
+pub mod Makes
+pub mod Runs
+pub mod Blocks
+pub mod Starts
+pub mod Forms
+pub mod Programs
+pub mod Whole
+pub mod Entries
+pub mod Lows
+pub mod Views
+pub mod Steps
