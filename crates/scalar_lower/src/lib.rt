@@ -8,6 +8,8 @@ mod names;
 mod operand;
 mod scope;
 mod statements;
+#[cfg(test)]
+mod tests;
 mod variables;
 mod walk;
 

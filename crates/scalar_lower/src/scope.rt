@@ -15,6 +15,7 @@ use num_type::Stop;
 use std::alloc::Global;
 
 /// What stays the same while a function is walked.
+#[derive(Clone, Copy)]
 pub struct Scope<'a> {
     /// The names that are variables throughout the function.
     pub variables: &'a [Text],
