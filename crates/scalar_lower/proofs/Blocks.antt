@@ -14,24 +14,16 @@ use Rattle.c_tree.specs.Tree.{Sta}
 use Rattle.c_tree.specs.Meaning.{State}
 use Rattle.scalar_lower.specs.Walk.{with_type}
 use Rattle.scalar_lower.specs.Lowered.{Operand, Names, Emitted, and_then, lowered, sta_lowered, block_lowered, Behind}
-use Rattle.scalar_lower.proofs.Makes.{Stands}
+use Rattle.scalar_lower.proofs.Makes.{Stands, or_left, or_right}
 use Rattle.scalar_lower.proofs.Runs.{word_type, RunsTo, runs_nothing, runs_both, IsBelow, Keeps, keeps_both, Sees, sees_after, fi_of, Adds, adds, adds_nothing, adds_both, some_of, some_is, runs, rest_of}
 
 -- names that are variables
 abbrev pub Covers : Variables → List (List ℕ) → Type 0
 Covers vs names = (name : List ℕ) → list_any (λ other. bytes_eq other name) names ≡ true → is_variable vs name ≡ true
 
-or_left : (a b : Bool) → a ≡ true → (a || b) ≡ true
-or_left true b e = refl
-or_left false b e = absurd (cc)
-
-or_right : (a b : Bool) → b ≡ true → (a || b) ≡ true
-or_right true b e = refl
-or_right false b e = e
-
-any_append : (p : List ℕ → Bool) (xs ys : List (List ℕ)) → list_any p ys ≡ true → list_any p (xs ++ ys) ≡ true
-any_append p [] ys e = e
-any_append p (x ∷ xs) ys e = or_right (p x) (list_any p (xs ++ ys)) (any_append p xs ys e)
+pub any_behind : (p : List ℕ → Bool) (xs ys : List (List ℕ)) → list_any p ys ≡ true → list_any p (xs ++ ys) ≡ true
+any_behind p [] ys e = e
+any_behind p (x ∷ xs) ys e = or_right (p x) (list_any p (xs ++ ys)) (any_behind p xs ys e)
 
 or_cases : (a b c : Bool) → (b ≡ true → c ≡ true) → (a || b) ≡ true → (a || c) ≡ true
 or_cases true b c f e = refl
@@ -40,9 +32,6 @@ or_cases false b c f e = f e
 pub any_front : (p : List ℕ → Bool) (xs ys : List (List ℕ)) → list_any p xs ≡ true → list_any p (xs ++ ys) ≡ true
 any_front p [] ys e = absurd (cc)
 any_front p (x ∷ xs) ys e = or_cases (p x) (list_any p xs) (list_any p (xs ++ ys)) (any_front p xs ys) e
-
-pub any_behind : (p : List ℕ → Bool) (xs ys : List (List ℕ)) → list_any p ys ≡ true → list_any p (xs ++ ys) ≡ true
-any_behind = any_append
 
 -- a variable that is assigned stands there with its new value
 pub sees_assigned : (names : Names) (vs : Variables) (env : Env) (st : State) (n : ℕ) (to : List ℕ) (o : Operand) (z : ℤ) → Covers vs (to ∷ []) → Stands st o z → IsBelow o.spot n → Sees names vs env st n → Sees (with_type names to o) vs ((to, fi_of o.num z) ∷ env) st n
@@ -95,7 +84,7 @@ block_adds (ast.Next s more) names em behind h =
     let x = some_of (sta_lowered s names em) (λ b. block_lowered more b.names b.emitted) behind h in
     adds_both em x.0.emitted behind.emitted (sta_adds s names em x.0 x.1) (block_adds more x.0.names x.0.emitted behind x.2)
 
-none_some : {A B : Type 0} (next : A → Option B) (y : B) → and_then None next ≡ Some y → ⊥
+pub none_some : {A B : Type 0} (next : A → Option B) (y : B) → and_then None next ≡ Some y → ⊥
 unfolding and_then
 none_some next y h = cc
 

@@ -17,7 +17,8 @@ use Rattle.c_tree.specs.Depth.{exp_depth, sta_depth}
 use Rattle.scalar_lower.specs.Lowered.{Spot, Input, Variable, Operand, Names, Emitted, Low, lowered, set_next, operation, word_for, read, widened, constant, aligned}
 use Rattle.scalar_lower.proofs.Ranges.{pow_mono, pow_step, pow_pos}
 use Rattle.scalar_lower.proofs.Exact.{product_is, sum_is}
-use Rattle.scalar_lower.proofs.Runs.{some_of, some_is, adds, rest_of}
+use Rattle.scalar_lower.proofs.Makes.{or_left, or_right}
+use Rattle.scalar_lower.proofs.Runs.{some_of, some_is, adds, rest_of, get_behind}
 
 -- an expression of this type
 abbrev pub HasType : Scope → Exp → CWord → Type 0
@@ -89,14 +90,6 @@ aligned_typed sc t o up short good = by (nat_eq k 0)
     by false = binary_typed sc op.Mul (widened t.signed o) (constant t.signed (2 ^ k)) (word_for t.signed) (multiplies_word (word_for t.signed))
         (widened_typed sc t.signed o up good) (constant_typed sc t.signed k (omega (arith, short)) (λ e. short))
 
-or_left : (a b : Bool) → a ≡ true → (a || b) ≡ true
-or_left true b e = refl
-or_left false b e = absurd (cc)
-
-or_right : (a b : Bool) → b ≡ true → (a || b) ≡ true
-or_right true b e = refl
-or_right false b e = e
-
 operation_typed : (sc : Scope) (work : Work) (t : NumericType) (a b : Operand) → result_type work usual a.num b.num ≡ Some t → IsGood sc a → IsGood sc b → HasType sc (operation work t a b) (word_for t.signed) × IsWithin t
 unfolding operation
 operation_typed sc Product t a b e p q =
@@ -161,10 +154,6 @@ one_type : (w : CWord) → is_one_type (Some w) (Some w) ≡ true
 unfolding is_one_type
 one_type I64 = refl
 one_type U64 = refl
-
-get_behind : (xs rest : List CWord) (c : CWord) → slice_get (xs ++ (c ∷ rest)) (length xs) ≡ Some c
-get_behind [] rest c = refl
-get_behind (x ∷ xs) rest c = get_behind xs rest c
 
 set_plain : (sc : Scope) (k : ℕ) (e : Exp) (w : CWord) → slice_get sc.words k ≡ Some w → HasType sc e w → exp_depth e ≤ 6 → IsPlain sc (Set k e)
 set_plain sc k e w here typed deep = record {

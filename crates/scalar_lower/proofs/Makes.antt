@@ -32,11 +32,11 @@ pub record Made (work : Work) (t : NumericType) (a b : Operand) (x y : ℤ) (st 
   pub range : InRange t.signed t.word z
   pub limits : IsWithin t
 
-or_left : (a b : Bool) → a ≡ true → (a || b) ≡ true
+pub or_left : (a b : Bool) → a ≡ true → (a || b) ≡ true
 or_left true b e = refl
 or_left false b e = absurd (cc)
 
-or_right : (a b : Bool) → b ≡ true → (a || b) ≡ true
+pub or_right : (a b : Bool) → b ≡ true → (a || b) ≡ true
 or_right true b e = refl
 or_right false b e = e
 

@@ -23,7 +23,7 @@ use Rattle.c_tree.specs.Depth.{exp_depth, block_depth}
 use Rattle.scalar_lower.specs.Walk.{with_type}
 use Rattle.scalar_lower.specs.Lowered.{Spot, Input, Variable, Operand, Names, Emitted, Behind, and_then, lowered, sta_lowered, block_lowered, outputs_lowered, stores_from, inputs_from, real_slot, real_slots, word_for, read}
 use Rattle.scalar_lower.proofs.Runs.{rest_of, some_of, some_is}
-use Rattle.scalar_lower.proofs.Blocks.{block_adds}
+use Rattle.scalar_lower.proofs.Blocks.{block_adds, none_some}
 use Rattle.scalar_lower.proofs.Starts.{nums_of, container_sign}
 use Rattle.scalar_lower.proofs.Forms.{HasType, IsGood, IsPlain, ArePlain, NamesGood, lowers_plain}
 
@@ -97,10 +97,6 @@ inputs_good (i ∷ is) (t ∷ ts) k names sc e within good =
     (All-tail IsWithin t ts within) (named_good sc names i.text o one good)
 
 -- ---- blocks
-
-none_some : {A B : Type 0} (next : A → Option B) (y : B) → and_then None next ≡ Some y → ⊥
-unfolding and_then
-none_some next y h = cc
 
 pub block_plain : (b : ast.Block) (names : Names) (em : Emitted) (behind : Behind) → block_lowered b names em ≡ Some behind → (sc : Scope) (rest : List CWord) → sc.words ≡ behind.emitted.words ++ rest → NamesGood sc names → ArePlain sc em.sets → ArePlain sc behind.emitted.sets × NamesGood sc behind.names
 block_plain ast.Done names em behind h sc rest fits good plain =

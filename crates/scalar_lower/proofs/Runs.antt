@@ -102,7 +102,7 @@ set_typed (x ∷ ws) zero w old h e = let same : x ≡ old = cc in ap (λ c. c �
 set_typed (x ∷ ws) (suc k) w old h e = ap (λ cs. word_type x ∷ cs) (set_typed ws k w old h e)
 
 -- the word behind a list
-get_behind : (xs rest : List CWord) (c : CWord) → slice_get (xs ++ (c ∷ rest)) (length xs) ≡ Some c
+pub get_behind : (xs rest : List CWord) (c : CWord) → slice_get (xs ++ (c ∷ rest)) (length xs) ≡ Some c
 get_behind [] rest c = refl
 get_behind (x ∷ xs) rest c = get_behind xs rest c
 

@@ -1,7 +1,6 @@
 -- The program of a function does what the function does.
 use Rattle.std.proofs.Common.{◌≡◌, ◌≢◌, ℕ, ◌^◌, ◌<◌, ◌≤◌, Bool, true, false, List, [], ◌∷◌, ◌++◌, length, map, ℤ, Some, refl, sym, ap, ◌∙◌, subst, arith, append_assoc, append-nil, if◌then◌else◌, lit<}
 use Rattle.std.specs.Prelude.{slice_get, flat_map, All, AllPairs, bytes_eq}
-use Rattle.std.proofs.lemmas.Slice.Eq.{bytes_eq-Decides}
 use Rattle.std.proofs.lemmas.List.Elements.{All-nil, All-cons}
 use Rattle.mat_ast.specs.declared.tree.Ident.{Ident}
 use Rattle.mat_ast.specs.Tree.{Fun}
@@ -29,6 +28,7 @@ use Rattle.scalar_lower.specs.Lowered.{Operand, Names, Emitted, Behind, block_lo
 use Rattle.scalar_lower.specs.Correspondence as match
 use Rattle.scalar_lower.specs.Correspondence.{AreInputs, AreFilled, Corresponds, Behaves, IsProgramOf, form_of, value_form}
 use Rattle.scalar_lower.proofs.Runs.{word_type, before, RunsTo, Sees, some_of, some_is, fi_of}
+use Rattle.scalar_lower.proofs.Entries.{same_text}
 use Rattle.scalar_lower.proofs.Blocks.{Covers, block_runs, any_front, any_behind}
 use Rattle.scalar_lower.proofs.Starts.{inputs_see, AllStand, values_of, outputs_give, nums_of, items_in, stores_run}
 use Rattle.scalar_lower.proofs.Forms.{ArePlain, plain_append, NamesGood}
@@ -182,9 +182,6 @@ behaves fs entry f ts em names outs found same within body h vals olds n ins fil
     (subst (Corresponds p.interface (got.Gives (values_of outs o.0))) (sym ran) both)
 
 -- equal texts by a test
-same_text : (a b : List ℕ) → bytes_eq a b ≡ true → a ≡ b
-same_text a b h = (bytes_eq-Decides a b).0 h
-
 -- ---- the whole
 
 function_name : (fs : List Fun) (entry : List ℕ) (f : Fun) → function_named fs entry ≡ Some f → f.name.text ≡ entry
