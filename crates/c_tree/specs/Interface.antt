@@ -1,16 +1,11 @@
 -- The first two lines of a program's text.
-use Rattle.std.specs.Prelude.{ℕ, Bool, true, false, List, [], ◌++◌, flat_map, codes}
-use Rattle.shape_rules.specs.TypeText.{type_text, shape_text}
+use Rattle.std.specs.Prelude.{ℕ, List, ◌++◌, flat_map, codes}
+use Rattle.shape_rules.specs.TypeText.{type_text, shape_text, complex_mark}
 use Rattle.c_tree.specs.Tree.{Kind, Fixed, Logical, Slot, Signature}
 
 -- the first line
 unfoldable pub include_line : List ℕ
 include_line = codes "#include <stdint.h>\n"
-
--- what a complex slot has behind its shape
-abbrev pub complex_mark : Bool → List ℕ
-complex_mark true = codes ":c"
-complex_mark false = []
 
 -- what the elements are, and the shape, as s8.4:1x1:c or b:1x1
 abbrev pub kind_text : Kind → List ℕ → List ℕ

@@ -1,16 +1,15 @@
 //! The first two lines.
 
 ghost use Rattle.std.specs.Prelude.{◌≡◌, ◌++◌, OnOk, codes, map};
-ghost use Rattle.num_type.specs.View.{type_of};
 ghost use Rattle.shape_rules.specs.Shapes.{rows_of, columns_of};
-ghost use Rattle.shape_rules.specs.TypeText.{type_text, shape_text};
+ghost use Rattle.shape_rules.specs.TypeText.{shape_text};
 ghost use Rattle.c_tree.specs.View.{interface_view, slot_view, kind_view};
 ghost use Rattle.c_tree.specs.Interface.{include_line, interface_line, slot_text, slots_text, kind_text};
 
-use crate::pieces::{put, put_number};
+use crate::pieces::put;
 use c_tree::{CKind, CSlot, Interface};
-use num_type::{Memory, NumType};
-use shape_rules::Shape;
+use num_type::Memory;
+use shape_rules::{Shape, write_num, write_shape};
 
 /// The first line.
 #[tactic(auto, unfolding(c_tree::specs::Interface::include_line))]
@@ -55,32 +54,14 @@ fn put_kind(out: &mut Vec<u8>, kind: CKind, shape: Shape) -> Result<(), Memory>
 {
     match kind {
         CKind::Fi { num, complex } => {
-            put_type(out, num)?;
+            write_num(num, out)?;
             put(out, b":")?;
-            put_shape(out, shape)?;
+            write_shape(shape, out)?;
             if complex { put(out, b":c") } else { Ok(()) }
         }
         CKind::Logical => {
             put(out, b"b:")?;
-            put_shape(out, shape)
+            write_shape(shape, out)
         }
     }
-}
-
-fn put_type(out: &mut Vec<u8>, num: NumType) -> Result<(), Memory>
-    ensures { OnOk result (out.new.items ≡ out.old.items ++ type_text (type_of num)) }
-{
-    put(out, if num.signed() { b"s" } else { b"u" })?;
-    put_number(out, num.word() as u64)?;
-    put(out, b".")?;
-    let text = num.fraction().to_string(*out.allocator())?;
-    put(out, text.as_bytes())
-}
-
-fn put_shape(out: &mut Vec<u8>, shape: Shape) -> Result<(), Memory>
-    ensures { OnOk result (out.new.items ≡ out.old.items ++ shape_text (rows_of shape) (columns_of shape)) }
-{
-    put_number(out, shape.rows() as u64)?;
-    put(out, b"x")?;
-    put_number(out, shape.cols() as u64)
 }

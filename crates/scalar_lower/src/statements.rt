@@ -14,6 +14,7 @@ use crate::walk::lower_expr;
 use fic_base::{Code, Place, Refusal};
 use mat_ast::{Expr, Ident, Stmt};
 use num_type::{Memory, NumType, Stop};
+use shape_rules::{Declared, Shape, write_type};
 use std::alloc::Global;
 
 /// Lowers the statements of a block behind those so far.
@@ -87,13 +88,12 @@ fn change_text(alloc: Global, new: NumType, old: NumType) -> Result<Vec<u8>, Mem
 }
 
 fn put_scalar(text: &mut Vec<u8>, num: NumType) -> Result<(), Memory> {
-    let alloc = *text.allocator();
-    text.extend_from_slice(if num.signed() { b"s" } else { b"u" })?;
-    text.extend_from_slice(num.word().to_string(alloc)?.as_bytes())?;
-    text.extend_from_slice(b".")?;
-    text.extend_from_slice(num.fraction().to_string(alloc)?.as_bytes())?;
-    text.extend_from_slice(b":1x1")?;
-    Ok(())
+    let declared = Declared {
+        num,
+        complex: false,
+        shape: Shape::scalar(),
+    };
+    write_type(&declared, text)
 }
 
 // Where the refusal of a statement that isn't supported stands.

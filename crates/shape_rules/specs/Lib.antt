@@ -1,2 +1,4 @@
 pub mod Shapes
 pub mod TypeText
+pub mod Pieces
+pub mod Declarations

@@ -1,5 +1,5 @@
 -- Types as texts, such as s16.15:1x4.
-use Rattle.std.specs.Prelude.{ℕ, Bool, true, false, List, ◌++◌, codes, decimal}
+use Rattle.std.specs.Prelude.{ℕ, Bool, true, false, List, [], ◌++◌, codes, decimal}
 use Rattle.std.specs.Fmt.{signed_decimal}
 use Rattle.num_type.specs.Types.{NumericType}
 
@@ -15,3 +15,8 @@ type_text t = sign_letter t.signed ++ decimal t.word ++ codes "." ++ signed_deci
 -- rows and columns, as 1x4
 abbrev pub shape_text : ℕ → ℕ → List ℕ
 shape_text rows columns = decimal rows ++ codes "x" ++ decimal columns
+
+-- what a complex type has behind its shape
+abbrev pub complex_mark : Bool → List ℕ
+complex_mark true = codes ":c"
+complex_mark false = []
