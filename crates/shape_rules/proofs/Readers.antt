@@ -1,10 +1,9 @@
 -- What the readers answer.
-use Rattle.std.proofs.Common.{inl, inr, ◌⊎◌, ◌≡◌, ◌≢◌, ℕ, zero, suc, ◌+◌, ◌*◌, ◌<◌, ◌≤◌, ◌^◌, Bool, true, false, List, [], ◌∷◌, ◌++◌, length, refl, sym, ap, ◌∙◌, subst, arith, append_assoc, append-nil}
-use Rattle.std.specs.Prelude.{codes, ℤ, pos, negsuc, ◌≤ℤ◌, ◌↔◌, Option, Some, None, IsSome, IfSome, bytes_eq}
+use Rattle.std.proofs.Common.{inl, inr, ◌≡◌, ◌≢◌, ℕ, ◌*◌, ◌<◌, ◌≤◌, ◌^◌, Bool, true, false, List, [], ◌∷◌, ◌++◌, length, refl, sym, ap, ◌∙◌, subst, arith, append-nil}
+use Rattle.std.specs.Prelude.{codes, ℤ, ◌≤ℤ◌, ◌↔◌, Option, Some, None, IsSome, IfSome, bytes_eq}
 use Rattle.std.proofs.lemmas.Slice.Eq.{bytes_eq-Decides}
 use Rattle.std.specs.Fmt.{decimal, signed_decimal}
-use Rattle.std.proofs.Math.Nat.{le-mul_of_pos_right}
-use Rattle.num_type.specs.Types.{NumericType, IsWithin, fraction_least, fraction_most}
+use Rattle.num_type.specs.Types.{IsWithin, fraction_least, fraction_most}
 use Rattle.num_type.specs.View.{type_of}
 use Rattle.num_type.specs.declared.num_type.NumType.{NumType}
 use Rattle.shape_rules.specs.declared.shape.Shape.{Shape}
@@ -12,9 +11,9 @@ use Rattle.shape_rules.specs.declared.declared.Declared.{Declared}
 use Rattle.shape_rules.specs.Shapes.{IsShape, rows_of, columns_of}
 use Rattle.shape_rules.specs.TypeText.{sign_letter, type_text, shape_text, complex_mark}
 use Rattle.shape_rules.specs.Pieces.{Lacks}
-use Rattle.shape_rules.specs.Declarations.{lengths_text, IsTypeText, IsBehind, IsScalar, declared_text, scalar_text, ReadsLengths, ReadsShape, ReadsNum, ReadsType, ReadsBehind, ReadsMarked}
-use Rattle.shape_rules.proofs.Splits.{same_split, no_mark, lacks_both}
-use Rattle.shape_rules.proofs.Texts.{decimal_lacks, same_decimal, same_fraction, lengths_parts, lengths_are, shape_is, shape_parts, few_rows, few_columns, type_lacks, shape_lacks, type_is, declared_is}
+use Rattle.shape_rules.specs.Declarations.{lengths_text, IsTypeText, IsBehind, ReadsLengths, ReadsShape, ReadsNum, ReadsType, ReadsBehind, ReadsMarked}
+use Rattle.shape_rules.proofs.Splits.{same_split, no_mark}
+use Rattle.shape_rules.proofs.Texts.{same_decimal, same_fraction, lengths_parts, lengths_are, shape_is, shape_parts, few_rows, few_columns, type_lacks, shape_lacks, type_is, declared_is}
 
 no_some : (A : Type 0) → IsSome {T = A} None → ⊥
 no_some A h = cc

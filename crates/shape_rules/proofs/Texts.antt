@@ -1,5 +1,5 @@
 -- The texts of types, taken apart.
-use Rattle.std.proofs.Common.{inl, inr, ◌⊎◌, ◌≡◌, ◌≢◌, ℕ, zero, suc, ◌+◌, ◌<◌, ◌≤◌, ◌^◌, Bool, true, false, List, [], ◌∷◌, ◌++◌, length, refl, sym, ap, ◌∙◌, subst, arith, append_assoc, append-nil, FitsSigned, w32}
+use Rattle.std.proofs.Common.{inl, inr, ◌⊎◌, ◌≡◌, ◌≢◌, ℕ, suc, ◌<◌, ◌≤◌, ◌^◌, Bool, true, false, List, [], ◌∷◌, ◌++◌, refl, sym, ap, ◌∙◌, subst, arith, append_assoc, FitsSigned, w32}
 use Rattle.std.specs.Prelude.{codes, ℤ, pos, negsuc, ◌≤ℤ◌, ◌<ℤ◌, neg_ℤ, unsigned_abs}
 use Rattle.std.specs.Fmt.{decimal, signed_decimal}
 use Rattle.std.specs.Str.Parse.{AllDigits, digits_value}
@@ -7,7 +7,7 @@ use Rattle.std.proofs.lemmas.Str.Parse.{digit_from_value}
 use Rattle.std.proofs.lemmas.Int.{ints, fits_signed_from_abs}
 use Rattle.std.proofs.Math.Nat.{le-mul_of_pos_right}
 use Rattle.num_type.proofs.Decimals.{decimal_digits}
-use Rattle.num_type.specs.Types.{NumericType, fraction_least, fraction_most}
+use Rattle.num_type.specs.Types.{fraction_least, fraction_most}
 use Rattle.num_type.specs.View.{type_of}
 use Rattle.num_type.specs.declared.num_type.NumType.{NumType}
 use Rattle.shape_rules.specs.declared.shape.Shape.{Shape}
@@ -15,7 +15,7 @@ use Rattle.shape_rules.specs.declared.declared.Declared.{Declared}
 use Rattle.shape_rules.specs.Shapes.{rows_of, columns_of}
 use Rattle.shape_rules.specs.TypeText.{sign_letter, type_text, shape_text, complex_mark}
 use Rattle.shape_rules.specs.Pieces.{Lacks}
-use Rattle.shape_rules.specs.Declarations.{lengths_text, IsTypeText, IsBehind, IsScalar, declared_text, scalar_text}
+use Rattle.shape_rules.specs.Declarations.{lengths_text, declared_text}
 use Rattle.shape_rules.proofs.Splits.{same_split, no_mark, lacks_both}
 
 -- a byte that is no digit stands in no decimal

@@ -1,5 +1,5 @@
 -- Declared types as texts, such as s16.15:1x4:c.
-use Rattle.std.specs.Prelude.{◌≡◌, ◌≢◌, ◌⊎◌, ℕ, Bool, true, false, List, [], ◌∷◌, ◌++◌, codes, Option, Some, None}
+use Rattle.std.specs.Prelude.{◌≡◌, ◌≢◌, ◌⊎◌, ℕ, Bool, true, List, ◌++◌, codes, Option, Some, None}
 use Rattle.std.specs.Fmt.{decimal, signed_decimal}
 use Rattle.num_type.specs.View.{type_of}
 use Rattle.num_type.specs.declared.num_type.NumType.{NumType}

@@ -1,4 +1,3 @@
-use Rattle.std.proofs.Common.{◌≡◌, sym, ◌∙◌}
 use Rattle.std.specs.Prelude.{codes}
 use Rattle.shape_rules.proofs.Readers.{plain_none, marked, other_bytes}
 use Rattle.shape_rules.proofs.declared.read_behind.Goals as goal

@@ -1,4 +1,4 @@
-use Rattle.std.proofs.Common.{◌≡◌, sym, ◌∙◌, subst, to_z, of_z, w32, ◌↔◌}
+use Rattle.std.proofs.Common.{◌≡◌, subst, to_z, of_z, w32, ◌↔◌}
 use Rattle.std.proofs.lemmas.Int.{to_z-of_z}
 use Rattle.std.specs.Prelude.{IsSome, IfSome}
 use Rattle.num_type.specs.Types.{IsWithin}

@@ -1,4 +1,3 @@
-use Rattle.std.proofs.Common.{◌≡◌, sym, ◌∙◌}
 use Rattle.shape_rules.proofs.Readers.{no_bytes, no_sign, signed_type}
 use Rattle.shape_rules.proofs.declared.read_num.Goals as goal
 

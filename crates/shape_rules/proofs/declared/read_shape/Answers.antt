@@ -1,4 +1,3 @@
-use Rattle.std.proofs.Common.{◌≡◌, sym, ◌∙◌}
 use Rattle.shape_rules.proofs.Texts.{no_shape}
 use Rattle.shape_rules.proofs.Readers.{made_shape, unread_rows, unread_columns}
 use Rattle.shape_rules.proofs.declared.read_shape.Goals as goal

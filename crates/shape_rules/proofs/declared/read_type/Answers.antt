@@ -1,4 +1,3 @@
-use Rattle.std.proofs.Common.{◌≡◌, sym, ◌∙◌}
 use Rattle.shape_rules.proofs.Readers.{whole_none, parted_none, parted}
 use Rattle.shape_rules.proofs.declared.read_type.Goals as goal
 

@@ -1,4 +1,4 @@
-use Rattle.std.proofs.Common.{◌≡◌, ◌+◌, ◌<◌, ◌≤◌, ◌^◌, ◌⊎◌, inl, inr, ◌<ℤ◌, ◌≤ℤ◌, ℤ, refl, arith}
+use Rattle.std.proofs.Common.{◌≡◌, ◌⊎◌, inl, inr, ◌<ℤ◌, refl, arith}
 use Rattle.std.proofs.lemmas.Int.{ints}
 use Rattle.num_type.specs.Types.{fraction_least, fraction_most}
 use Rattle.shape_rules.proofs.Texts.{far_fraction, wide_far}

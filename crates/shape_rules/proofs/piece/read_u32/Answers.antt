@@ -1,4 +1,4 @@
-use Rattle.std.proofs.Common.{◌≡◌, ◌+◌, ◌<◌, ◌≤◌, ◌^◌, ℕ, arith}
+use Rattle.std.proofs.Common.{arith}
 use Rattle.shape_rules.proofs.Texts.{u32_none}
 use Rattle.shape_rules.proofs.piece.read_u32.Goals as goal
 

@@ -1,6 +1,5 @@
-use Rattle.std.proofs.Common.{◌≡◌, ◌∷◌, ◌++◌, ◌+◌, ◌∙◌, ap, sym, length, take, drop, suc, subst, arith, ◌<◌, ◌≤◌, ℕ}
-use Rattle.shape_rules.specs.Pieces.{Lacks, place_of}
-use Rattle.shape_rules.proofs.Splits.{at_place, no_place, split_at_place}
+use Rattle.std.proofs.Common.{◌≡◌, ◌+◌, ◌∙◌, ap, drop, suc, arith, ℕ}
+use Rattle.shape_rules.proofs.Splits.{no_place, split_at_place}
 use Rattle.shape_rules.proofs.piece.split.Goals as goal
 
 pub returns-then-k-bytes : goal.returns-then-k-bytes
