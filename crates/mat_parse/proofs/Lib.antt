@@ -14,3 +14,8 @@ pub mod Decide
 pub mod Views
 pub mod Scans
 pub mod Stacks
+pub mod Goes
+pub mod Keeps
+pub mod HeaderNames
+pub mod Capped
+pub mod Parses

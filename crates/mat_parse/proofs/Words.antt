@@ -1,6 +1,6 @@
 -- Each token is spelled as its word says.
 use Rattle.std.proofs.Common.{◌≡◌, ℕ, Bool, true, false, List, [], ◌∷◌, refl, ap, sym, ◌∙◌}
-use Rattle.std.specs.Prelude.{◌&&◌, nat_eq, if◌then◌else◌}
+use Rattle.std.specs.Prelude.{◌&&◌, nat_eq, bytes_eq, if◌then◌else◌}
 use Rattle.std.proofs.lemmas.Bool.{eqb-true}
 use Rattle.fic_base.specs.declared.place.Place.{Place}
 use Rattle.mat_token.specs.declared.token.Kind.{Kind}
@@ -19,6 +19,13 @@ same_texts (a ∷ more) (b ∷ rest) h = split (same_texts more rest) (nat_eq a 
     split ih false e k = absurd (cc)
 same_texts [] (b ∷ rest) h = absurd (cc)
 same_texts (a ∷ more) [] h = absurd (cc)
+
+-- as Rust compares them
+pub same_bytes : (a b : List ℕ) → same_text a b ≡ bytes_eq a b
+same_bytes [] [] = refl
+same_bytes (a ∷ more) (b ∷ rest) = ap (λ t. nat_eq a b && t) (same_bytes more rest)
+same_bytes [] (b ∷ rest) = refl
+same_bytes (a ∷ more) [] = refl
 
 -- words of one kind that have no text of their own
 abbrev Fixed : Kind → List Word → Type 0

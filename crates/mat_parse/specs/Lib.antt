@@ -7,3 +7,5 @@ pub mod Least
 pub mod Refused
 pub mod View
 pub mod Pending
+pub mod Families
+pub mod Parsed

@@ -11,16 +11,26 @@ ghost use Rattle.mat_parse.specs.Refused.{IsRefused};
 ghost use Rattle.mat_token.specs.Lexeme.{Lexeme};
 ghost use Rattle.mat_parse.specs.Grammar.{IsLive, IsShallow, file};
 
+mod advance;
+mod blocks;
 mod body;
+mod bracket;
+mod expression;
+mod least;
 mod names;
+mod operator;
+mod paren;
+mod parser;
 mod part;
 mod pending;
 mod rank;
 mod stack;
+mod statement;
 mod text;
 mod word;
 
 use mat_token::Kind;
+pub use parser::{one_parse, parse, parse_list};
 pub use word::{Mode, Word};
 
 /// A law of the grammar: a token list that goes on to a file of depth at most 100 goes on to a file.
