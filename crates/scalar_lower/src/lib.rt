@@ -1,0 +1,23 @@
+//! Types and lowers functions of scalar assignments.
+#![tactic(auto)]
+
+mod emitted;
+mod entry;
+mod file;
+#[cfg(test)]
+mod file_tests;
+mod headers;
+mod lower;
+mod names;
+mod operand;
+mod scope;
+mod statements;
+mod targets;
+#[cfg(test)]
+mod tests;
+mod variables;
+mod walk;
+
+pub use entry::lower_function;
+pub use file::lower_file;
+pub use scope::Scope;
