@@ -1,0 +1,58 @@
+-- What the statuses say.
+use Rattle.std.proofs.Common.{inl, inr, ◌≡◌, ℕ, List, refl, sym, subst, Result, Ok, Err}
+use Rattle.std.specs.Prelude.{Option, Some, None, OnOk, OnErr}
+use Rattle.shape_rules.specs.declared.declared.Declared.{Declared}
+use Rattle.fic_io.specs.declared.sink.Failed.{Failed}
+use Rattle.fic_io.specs.Causes.{Told, appended}
+use Rattle.fi_cli.specs.Gains.{GainsPart}
+use Rattle.fi_cli.specs.Forms.{IsCompile}
+use Rattle.fi_cli.specs.Causes.{ShelfSide, SinkSide, Cause, SourceRefused, Unread, Wanting, Formless, status_of, line_of, StandsAt, Stands, IsAsked, GainsOrFails, Says}
+use Rattle.num_type.specs.declared.memory.Stop.{Stop}
+use Rattle.num_type.specs.declared.memory.Stop.TheVariants as stop
+use Rattle.fic_base.specs.declared.refusal.Refusal.{Refusal}
+use Rattle.fi_cli.specs.Source.{IsRefusal}
+use Rattle.fi_cli.specs.View.{Delivers, PutsLine, TellsCause, StopIs, RefusesAt}
+
+-- a fact of bytes that are told gives another
+pub told_map : {A : Type 0} (o : Option A) (P Q : A → Type 0) → ((a : A) → P a → Q a) → Told o P → Told o Q
+told_map None P Q f h = tt
+told_map (Some a) P Q f h = f a h
+
+pub gains : (r : Result (Unit {0}) Failed) (s : SinkSide) (bytes : List ℕ) → OnOk r (s.new ≡ appended s.old bytes) → OnErr r (GainsPart s.before s.now s.old s.new bytes) → GainsOrFails s bytes
+gains (Ok u) s bytes ok bad = inl ok
+gains (Err e) s bytes ok bad = inr bad
+
+-- a line of a cause that stands was put, or failed
+line_put : (result : ℕ) (cause : Cause) (words : List (List ℕ)) (shelf : ShelfSide) (out err : SinkSide) → Stands cause words shelf → out.new ≡ out.old → PutsLine result (status_of cause) (line_of cause) err → Says result words shelf out err
+line_put result cause words shelf out err stands same (inr p) =
+    subst (λ (n : ℕ). Says n words shelf out err) (sym p.0) (inr (record { cause = cause; stands = stands; part = p.1; unchanged = same }))
+line_put result cause words shelf out err stands same (inl p) = subst (λ (n : ℕ). Says n words shelf out err) (sym p.0) (by cause stands p.1)
+  where
+    by : (c : Cause) → Stands c words shelf → err.new ≡ appended err.old (line_of c) → Says (status_of c) words shelf out err
+    by (SourceRefused r) s g = record { cause = SourceRefused r; stands = s; is_status = refl; gained = g; unchanged = same }
+    by (Unread name) s g = record { cause = Unread name; stands = s; is_status = refl; gained = g; unchanged = same }
+    by Wanting s g = record { cause = Wanting; stands = s; is_status = refl; gained = g; unchanged = same }
+    by (Formless n) s g = record { cause = Formless n; stands = s; is_status = refl; gained = g; unchanged = same }
+
+pub cause_told : (result : ℕ) (cause : Cause) (words : List (List ℕ)) (shelf : ShelfSide) (out err : SinkSide) → Stands cause words shelf → out.new ≡ out.old → TellsCause result cause err → Says result words shelf out err
+cause_told result cause words shelf out err stands same (inl p) = line_put result cause words shelf out err stands same p
+cause_told result cause words shelf out err stands same (inr p) = line_put result Wanting words shelf out err tt same p
+
+pub text_told : (result : ℕ) (text : List ℕ) (words : List (List ℕ)) (shelf : ShelfSide) (out err : SinkSide) → IsAsked words shelf text → Delivers result text out err → Says result words shelf out err
+text_told result text words shelf out err asked (inl p) =
+    subst (λ (n : ℕ). Says n words shelf out err) (sym p.0) (record { text = text; asked = asked; gained = p.1; quiet = p.2 })
+text_told result text words shelf out err asked (inr p) =
+    subst (λ (n : ℕ). Says n words shelf out err) (sym p.0) (inl (record { text = text; asked = asked; part = p.1; told = p.2 }))
+
+-- a refusal of what was read stands, where it is one of the source
+pub refused_stands : (stop : Stop Refusal) (cause : Cause) (read file entry : List ℕ) (ds : List Declared) (shelf : ShelfSide) → StopIs cause SourceRefused stop → RefusesAt stop (IsRefusal read entry ds)
+    → ((r : Refusal) → IsRefusal read entry ds r → Told (shelf.told file) (λ source. IsRefusal source entry ds r)) → StandsAt cause file entry ds shelf
+refused_stands (stop.Refused r) cause read file entry ds shelf is h f = subst (λ c. StandsAt c file entry ds shelf) (sym is) (f r h)
+refused_stands stop.Memory cause read file entry ds shelf is h f = subst (λ c. StandsAt c file entry ds shelf) (sym is) tt
+
+-- what stands at the form of the words stands
+pub stands_at_form : (cause : Cause) (words : List (List ℕ)) (file entry : List ℕ) (ds : List Declared) (shelf : ShelfSide) → IsCompile file entry ds words → StandsAt cause file entry ds shelf → Stands cause words shelf
+stands_at_form (SourceRefused r) words file entry ds shelf form h = record { file = file; entry = entry; types = ds; form = form; holds = h }
+stands_at_form (Unread name) words file entry ds shelf form h = record { file = file; entry = entry; types = ds; form = form; holds = h }
+stands_at_form Wanting words file entry ds shelf form h = tt
+stands_at_form (Formless n) words file entry ds shelf form h = absurd h

@@ -1,0 +1,57 @@
+-- The words of a call.
+use Rattle.std.specs.Prelude.{◌≡◌, ◌≢◌, ℕ, ◌+◌, ◌<◌, ◌≤◌, false, List, [], ◌∷◌, ◌++◌, length, take, codes, slice_get, Option, Some, None}
+use Rattle.fic_base.specs.Names.{IsName}
+use Rattle.shape_rules.specs.declared.declared.Declared.{Declared}
+use Rattle.shape_rules.specs.Declarations.{IsTypeText, IsScalar}
+
+-- what the words ask for
+pub data Command : Type 0 where
+  -- the program of an entry: the name of the source, the entry, and the declared types of its inputs
+  Compile : List ℕ → List ℕ → List Declared → Command
+
+-- the word of a type; one real element so far
+pub record IsTypeWord (word : List ℕ) (d : Declared) : Type 0 where
+  pub text : IsTypeText word d
+  pub one : IsScalar d.shape
+  pub real : d.complex ≡ false
+
+abbrev pub AreTypeWords : List (List ℕ) → List Declared → Type 0
+AreTypeWords [] [] = Unit {0}
+AreTypeWords (word ∷ words) (d ∷ ds) = IsTypeWord word d × AreTypeWords words ds
+AreTypeWords words ds = ⊥
+
+-- compile FILE ENTRY TYPE ..
+pub record IsCompile (file entry : List ℕ) (ds : List Declared) (words : List (List ℕ)) : Type 0 where
+  pub types : List (List ℕ)
+  pub are : words ≡ codes "compile" ∷ file ∷ entry ∷ types
+  pub a_file : file ≢ []
+  pub an_entry : IsName entry
+  pub are_types : AreTypeWords types ds
+
+-- the words have this form
+abbrev pub IsForm : Command → List (List ℕ) → Type 0
+IsForm (Compile file entry ds) words = IsCompile file entry ds words
+
+-- some form goes on behind the words
+abbrev pub GoesOn : List (List ℕ) → Type 0
+GoesOn words = (more : List (List ℕ)) × (c : Command) × IsForm c (words ++ more)
+
+-- the words have no form: n is the first position at which none goes on, or how many words there are
+pub record IsBadAt (words : List (List ℕ)) (n : ℕ) : Type 0 where
+  pub within : n ≤ length words
+  pub front : GoesOn (take n words)
+  pub stops : n < length words → GoesOn (take (n + 1) words) → ⊥
+  pub ends : n ≡ length words → (c : Command) → IsForm c words → ⊥
+
+-- the first words are those of types, and the one at n isn't
+pub record IsNoTypeAt (words : List (List ℕ)) (n : ℕ) : Type 0 where
+  pub ds : List Declared
+  pub front : AreTypeWords (take n words) ds
+  pub word : List ℕ
+  pub there : slice_get words n ≡ Some word
+  pub none : (d : Declared) → IsTypeWord word d → ⊥
+
+-- what a reader of such a word answers
+abbrev pub ReadsWord : Option Declared → List ℕ → Type 0
+ReadsWord (Some d) word = IsTypeWord word d
+ReadsWord None word = (d : Declared) → IsTypeWord word d → ⊥

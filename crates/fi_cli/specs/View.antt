@@ -1,0 +1,57 @@
+-- What answers of the code say.
+use Rattle.std.specs.Prelude.{◌≡◌, ◌⊎◌, ℕ, List, [], ◌∷◌, false}
+use Rattle.fic_io.specs.Causes.{appended}
+use Rattle.shape_rules.specs.declared.declared.Declared.{Declared}
+use Rattle.shape_rules.specs.Declarations.{IsScalar}
+use Rattle.fi_cli.specs.declared.call.Fault.{Fault}
+use Rattle.fi_cli.specs.declared.call.Fault.TheVariants as fault
+use Rattle.fi_cli.specs.Gains.{GainsPart}
+use Rattle.fi_cli.specs.Lines.{write_line}
+use Rattle.fi_cli.specs.Causes.{Cause, SourceRefused, Unread, Wanting, Formless, SinkSide, GainsOrFails, status_of, line_of}
+use Rattle.fi_cli.specs.declared.words.TypeWords.{TypeWords}
+use Rattle.fi_cli.specs.declared.words.TypeWords.TheVariants as words
+use Rattle.fi_cli.specs.Forms.{AreTypeWords, IsNoTypeAt}
+use Rattle.num_type.specs.declared.memory.Stop.{Stop}
+use Rattle.num_type.specs.declared.memory.Stop.TheVariants as stop
+
+-- a refusal of which P holds, unless memory is wanting
+abbrev pub RefusesAt : {R : Type 0} → Stop R → (R → Type 0) → Type 0
+RefusesAt (stop.Refused r) P = P r
+RefusesAt stop.Memory P = Unit {0}
+
+-- what a reader of type words answers
+abbrev pub ReadsWords : TypeWords → List (List ℕ) → Type 0
+ReadsWords (words.All ds) ws = AreTypeWords ws ds.items
+ReadsWords (words.NoneAt n) ws = IsNoTypeAt ws n
+
+-- each is the type of one real element
+abbrev pub AreScalars : List Declared → Type 0
+AreScalars [] = Unit {0}
+AreScalars (d ∷ ds) = IsScalar d.shape × (d.complex ≡ false) × AreScalars ds
+
+-- the cause that a fault is
+abbrev pub cause_view : Fault → Cause
+cause_view (fault.Refused r) = SourceRefused r
+cause_view (fault.Unread name) = Unread name.now
+cause_view fault.Memory = Wanting
+cause_view (fault.Formless n) = Formless n
+
+-- a stop as a cause
+abbrev pub StopIs : {R : Type 0} → Cause → (R → Cause) → Stop R → Type 0
+StopIs cause refused (stop.Refused r) = cause ≡ refused r
+StopIs cause refused stop.Memory = cause ≡ Wanting
+
+-- the text was written, with the status 0, or the output failed, with the status 3
+abbrev pub Delivers : ℕ → List ℕ → SinkSide → SinkSide → Type 0
+Delivers status text out err =
+    ((status ≡ 0) × (out.new ≡ appended out.old text) × (err.new ≡ err.old))
+    ⊎ ((status ≡ 3) × GainsPart out.before out.now out.old out.new text × GainsOrFails err write_line)
+
+-- the line was written, with this status, or the stream failed, with the status 3
+abbrev pub PutsLine : ℕ → ℕ → List ℕ → SinkSide → Type 0
+PutsLine result status line err =
+    ((result ≡ status) × (err.new ≡ appended err.old line)) ⊎ ((result ≡ 3) × GainsPart err.before err.now err.old err.new line)
+
+-- the cause was told, or want of memory
+abbrev pub TellsCause : ℕ → Cause → SinkSide → Type 0
+TellsCause result cause err = PutsLine result (status_of cause) (line_of cause) err ⊎ PutsLine result (status_of Wanting) (line_of Wanting) err

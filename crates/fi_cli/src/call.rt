@@ -1,0 +1,208 @@
+//! The top call.
+
+ghost use Rattle.std.specs.Prelude.{◌≡◌, IfOk, IfErr, map, string_bytes};
+ghost use Rattle.fic_io.specs.Causes.{Told};
+ghost use Rattle.fi_cli.specs.Source.{IsCompiled};
+ghost use Rattle.fi_cli.specs.Answers.{Answers};
+ghost use Rattle.fi_cli.specs.Causes.{ShelfSide, SinkSide, SourceRefused, Formless, StandsAt, Stands, IsAsked, Says, status_of, line_of};
+ghost use Rattle.fi_cli.specs.View.{AreScalars, cause_view, StopIs, Delivers, PutsLine, TellsCause};
+
+use crate::lines::{memory_line, read_line, refusal_line, word_line, write_line};
+use crate::put::put_all;
+use crate::source::compile_source;
+use crate::words::{Compile, read_words};
+use fic_base::Refusal;
+use fic_io::{Gate, Shelf, ShelfFault, Sink};
+use num_type::{Memory, Stop};
+use std::alloc::Global;
+
+/// Why a call writes no program.
+#[derive(Drop)]
+pub enum Fault<'a> {
+    /// The source is refused.
+    Refused(Refusal),
+    /// The source under this name could not be read.
+    Unread(&'a str),
+    /// Memory is wanting.
+    Memory,
+    /// The words have no form, by the first position at which none goes on.
+    Formless(usize),
+}
+
+/// Carries out the words, which are those behind the program's name, and answers the status.
+///
+/// | Status | Comes | Line on `err` |
+/// |---|---|---|
+/// | 0 | the words were carried out and all bytes were written to `out` | none |
+/// | 1 | the source is refused | `LINE:COL CODE SHOWN` |
+/// | 2 | the source could not be read | `read NAME` |
+/// | 3 | a sink failed | `write` if it was `out` |
+/// | 4 | memory is wanting | `memory` |
+/// | 5 | the words have no form | `word N` |
+///
+/// After the statuses 1, 2, 4 and 5 `out` is as before; after 3 it gained a part of the text from its front.
+pub fn top<S: Shelf, O: Sink, E: Sink, G: Gate>(
+    alloc: Global,
+    words: &[String],
+    shelf: &mut S,
+    out: &mut O,
+    err: &mut E,
+    _gate: &G,
+) -> u8
+    ensures says { Says result (map string_bytes words.now)
+        (record { told = S.told shelf.old; before = S.faults shelf.old; now = S.faults shelf.new; last = S.last shelf.new })
+        (record { old = O.taken out.old; new = O.taken out.new; before = O.faults out.old; now = O.faults out.new })
+        (record { old = E.taken err.old; new = E.taken err.new; before = E.faults err.old; now = E.faults err.new }) }
+    ensures answers { Answers result (map string_bytes words.now)
+        (record { told = S.told shelf.old; before = S.faults shelf.old; now = S.faults shelf.new; last = S.last shelf.new })
+        (record { old = O.taken out.old; new = O.taken out.new; before = O.faults out.old; now = O.faults out.new })
+        (record { old = E.taken err.old; new = E.taken err.new; before = E.faults err.old; now = E.faults err.new }) }
+{
+    let answered = serve(alloc, words, shelf, out, err);
+    answered
+}
+
+// Carries out the words, and answers the status.
+fn serve<S: Shelf, O: Sink, E: Sink>(
+    alloc: Global,
+    words: &[String],
+    shelf: &mut S,
+    out: &mut O,
+    err: &mut E,
+) -> u8
+    ensures { Says result (map string_bytes words.now)
+        (record { told = S.told shelf.old; before = S.faults shelf.old; now = S.faults shelf.new; last = S.last shelf.new })
+        (record { old = O.taken out.old; new = O.taken out.new; before = O.faults out.old; now = O.faults out.new })
+        (record { old = E.taken err.old; new = E.taken err.new; before = E.faults err.old; now = E.faults err.new }) }
+{
+    match carry_out(alloc, words, shelf) {
+        Ok(text) => deliver(out, err, text.as_slice()),
+        Err(fault) => tell(alloc, err, &fault),
+    }
+}
+
+// The text that the words ask for.
+fn carry_out<'a, S: Shelf>(
+    alloc: Global,
+    words: &'a [String],
+    shelf: &mut S,
+) -> Result<Vec<u8>, Fault<'a>>
+    ensures text { IfOk result (λ text. IsAsked (map string_bytes words.now)
+        (record { told = S.told shelf.old; before = S.faults shelf.old; now = S.faults shelf.new; last = S.last shelf.new }) text.items) }
+    ensures cause { IfErr result (λ fault. Stands (cause_view fault) (map string_bytes words.now)
+        (record { told = S.told shelf.old; before = S.faults shelf.old; now = S.faults shelf.new; last = S.last shelf.new })) }
+{
+    match read_words(alloc, words) {
+        Ok(command) => compile(alloc, command, shelf),
+        Err(stop) => Err(formless(stop)),
+    }
+}
+
+// Why the words are not carried out.
+fn formless<'a>(stop: Stop<usize>) -> Fault<'a>
+    ensures { StopIs (cause_view result) Formless stop }
+{
+    match stop {
+        Stop::Refused(at) => Fault::Formless(at),
+        Stop::Memory => Fault::Memory,
+    }
+}
+
+// Why the source has no program.
+fn refused<'a>(stop: Stop<Refusal>) -> Fault<'a>
+    ensures { StopIs (cause_view result) SourceRefused stop }
+{
+    match stop {
+        Stop::Refused(refusal) => Fault::Refused(refusal),
+        Stop::Memory => Fault::Memory,
+    }
+}
+
+// The text of the program of a command.
+fn compile<'a, S: Shelf>(
+    alloc: Global,
+    command: Compile<'a>,
+    shelf: &mut S,
+) -> Result<Vec<u8>, Fault<'a>>
+    requires { AreScalars command.types.items }
+    ensures text { IfOk result (λ text. Told (S.told shelf.old command.entry.file.now) (λ source. IsCompiled source command.entry.entry.now command.entry.types.items text.items)) }
+    ensures cause { IfErr result (λ fault. StandsAt (cause_view fault) command.entry.file.now command.entry.entry.now command.entry.types.items
+        (record { told = S.told shelf.old; before = S.faults shelf.old; now = S.faults shelf.new; last = S.last shelf.new })) }
+{
+    let mut source = Vec::new(alloc);
+    match shelf.read(command.file, 1_048_577, &mut source) {
+        Ok(()) => {}
+        Err(ShelfFault::Memory) => return Err(Fault::Memory),
+        Err(ShelfFault::Failed) => return Err(Fault::Unread(command.file)),
+    }
+    match compile_source(
+        alloc,
+        source.as_slice(),
+        command.entry,
+        command.types.as_slice(),
+    ) {
+        Ok(text) => Ok(text),
+        Err(stop) => Err(refused(stop)),
+    }
+}
+
+// Writes the text, and answers the status.
+fn deliver<O: Sink, E: Sink>(out: &mut O, err: &mut E, text: &[u8]) -> u8
+    ensures { Delivers result text.now
+        (record { old = O.taken out.old; new = O.taken out.new; before = O.faults out.old; now = O.faults out.new })
+        (record { old = E.taken err.old; new = E.taken err.new; before = E.faults err.old; now = E.faults err.new }) }
+{
+    match put_all(out, text) {
+        Ok(()) => 0,
+        Err(_) => {
+            let _ = put_all(err, write_line());
+            3
+        }
+    }
+}
+
+// The line about a fault. Want of memory is the only refusal.
+fn line_of(alloc: Global, fault: &Fault<'_>) -> Result<Vec<u8>, Memory>
+    ensures { IfOk result (λ line. line.items ≡ line_of (cause_view fault.now)) }
+{
+    match fault {
+        Fault::Refused(refusal) => refusal_line(alloc, refusal),
+        Fault::Unread(name) => read_line(alloc, name),
+        Fault::Memory => Ok(Vec::from_slice(alloc, memory_line())?),
+        Fault::Formless(at) => word_line(alloc, *at),
+    }
+}
+
+// The status of a fault.
+fn status_of(fault: &Fault<'_>) -> u8
+    ensures { result ≡ status_of (cause_view fault.now) }
+{
+    match fault {
+        Fault::Refused(_) => 1,
+        Fault::Unread(_) => 2,
+        Fault::Memory => 4,
+        Fault::Formless(_) => 5,
+    }
+}
+
+// Writes a line, and answers the status, or 3 where the stream failed.
+fn put_line<E: Sink>(err: &mut E, status: u8, line: &[u8]) -> u8
+    ensures { PutsLine result status line.now
+        (record { old = E.taken err.old; new = E.taken err.new; before = E.faults err.old; now = E.faults err.new }) }
+{
+    match put_all(err, line) {
+        Ok(()) => status,
+        Err(_) => 3,
+    }
+}
+
+// Tells a fault, or want of memory for its line, and answers the status.
+fn tell<E: Sink>(alloc: Global, err: &mut E, fault: &Fault<'_>) -> u8
+    ensures { TellsCause result (cause_view fault.now)
+        (record { old = E.taken err.old; new = E.taken err.new; before = E.faults err.old; now = E.faults err.new }) }
+{
+    match line_of(alloc, fault) {
+        Ok(line) => put_line(err, status_of(fault), line.as_slice()),
+        Err(Memory) => put_line(err, 4, memory_line()),
+    }
+}

@@ -1,0 +1,15 @@
+//! The command line of the compiler: words, files, statuses.
+#![tactic(auto)]
+
+mod call;
+mod lines;
+mod names;
+#[cfg(test)]
+mod parse_tests;
+mod put;
+mod source;
+#[cfg(test)]
+mod tests;
+mod words;
+
+pub use call::top;

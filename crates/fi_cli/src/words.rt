@@ -1,0 +1,112 @@
+//! The words of a call.
+
+ghost use Rattle.std.specs.Prelude.{◌≡◌, ◌↔◌, [], IsTrue, codes, map, string_bytes, IfOk, IfErr};
+ghost use Rattle.fi_cli.specs.Forms.{IsCompile, IsBadAt, ReadsWord};
+ghost use Rattle.fi_cli.specs.View.{ReadsWords, RefusesAt};
+
+use crate::names::is_name;
+use num_type::{Memory, Stop};
+use shape_rules::{Declared, read_type};
+use std::alloc::Global;
+
+/// What a call of `compile` asks for.
+#[derive(Drop)]
+pub struct Compile<'a> {
+    /// The name of the source on the shelf.
+    pub file: &'a str,
+    /// The name of the function.
+    pub entry: &'a str,
+    /// The declared types of its inputs, in order.
+    pub types: Vec<Declared>,
+}
+
+// What the words behind the entry are.
+#[derive(Drop)]
+enum TypeWords {
+    // Types.
+    All(Vec<Declared>),
+    // Types up to this position, which has no word of a type.
+    NoneAt(usize),
+}
+
+/// What the words ask for. Refused with the first position at which no form goes on, or with the number of words where each goes on.
+pub fn read_words(alloc: Global, words: &[String]) -> Result<Compile<'_>, Stop<usize>>
+    ensures form { IfOk result (λ c. IsCompile c.file.now c.entry.now c.types.items (map string_bytes words.now)) }
+    ensures bad { IfErr result (λ stop. RefusesAt stop (IsBadAt (map string_bytes words.now))) }
+{
+    let Some((command, rest)) = words.split_first() else {
+        return Err(Stop::Refused(0));
+    };
+    if !is_compile(command.as_str()) {
+        return Err(Stop::Refused(0));
+    }
+    let Some((file, rest)) = rest.split_first() else {
+        return Err(Stop::Refused(1));
+    };
+    if is_nothing(file.as_str()) {
+        return Err(Stop::Refused(1));
+    }
+    let Some((entry, rest)) = rest.split_first() else {
+        return Err(Stop::Refused(2));
+    };
+    if !is_name(entry.as_bytes()) {
+        return Err(Stop::Refused(2));
+    }
+    match read_types(alloc, rest)? {
+        TypeWords::All(types) => Ok(Compile {
+            file: file.as_str(),
+            entry: entry.as_str(),
+            types,
+        }),
+        TypeWords::NoneAt(at) => Err(Stop::Refused(words.len() - (rest.len() - at))),
+    }
+}
+
+// Whether a word asks for a program.
+fn is_compile(word: &str) -> bool
+    ensures { IsTrue result ↔ (word.now ≡ codes "compile") }
+{
+    word == "compile"
+}
+
+// Whether a word has no byte.
+fn is_nothing(word: &str) -> bool
+    ensures { IsTrue result ↔ (word.now ≡ []) }
+{
+    word.is_empty()
+}
+
+// The types of words, or the first position of a word that is that of none. Want of memory is the only refusal.
+fn read_types(alloc: Global, words: &[String]) -> Result<TypeWords, Memory>
+    ensures { IfOk result (λ types. ReadsWords types (map string_bytes words.now)) }
+{
+    let mut types = Vec::new(alloc);
+    let mut at = 0;
+    for word in words {
+        match read_scalar(word.as_bytes()) {
+            Some(declared) => types.push(declared)?,
+            None => return Ok(TypeWords::NoneAt(at)),
+        }
+        at += 1;
+    }
+    Ok(TypeWords::All(types))
+}
+
+// The type of a word: one real element so far. None exactly where the word is that of none.
+fn read_scalar(word: &[u8]) -> Option<Declared>
+    ensures { ReadsWord result word.now }
+{
+    match read_type(word) {
+        None => None,
+        Some(declared) => {
+            if declared.complex {
+                return None;
+            }
+            if declared.shape.elements() == 1 {
+                Some(declared)
+            } else {
+                None
+            }
+        }
+    }
+}

@@ -1,0 +1,3 @@
+function y = f(a, b)
+y = a*b + a;
+end
