@@ -2,6 +2,8 @@
 #![tactic(auto)]
 
 mod call;
+#[cfg(test)]
+mod hostile_tests;
 mod lines;
 mod names;
 #[cfg(test)]

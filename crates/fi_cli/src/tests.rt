@@ -95,7 +95,7 @@ fn check_over(
 }
 
 /// Checks that a source is refused with this line.
-fn refused(rt: HostRuntime, types: &str, source: &str, line: &str) -> Result<(), Fail> {
+pub fn refused(rt: HostRuntime, types: &str, source: &str, line: &str) -> Result<(), Fail> {
     let mut words = String::from_str(rt.alloc(), "compile f.m f ")?;
     words.push_str(types)?;
     check(

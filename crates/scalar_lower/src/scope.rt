@@ -10,7 +10,7 @@ ghost use Rattle.scalar_lower.specs.View.{scope_view, IsStop};
 
 use fic_base::{Code, Place, Refusal, Text};
 use mat_ast::Func;
-use mat_token::Token;
+use mat_token::{Kind, Token};
 use num_type::Stop;
 use std::alloc::Global;
 
@@ -65,12 +65,22 @@ pub fn is_among_functions(name: &[u8], funcs: &[Func]) -> bool
     false
 }
 
+// Whether tokens of a kind have a text.
+fn has_text(kind: Kind) -> bool
+    ensures { result ≡ Shown.has_text kind }
+{
+    match kind {
+        Kind::Separator => false,
+        _ => true,
+    }
+}
+
 /// The text of the token at a place, and nothing where no token starts there.
 pub fn text_at<'a>(bytes: &'a [u8], tokens: &[Token], at: Place) -> &'a [u8]
     ensures { result.now ≡ Shown.text_at (lexemes_of bytes.now tokens.now) at }
 {
     for t in tokens {
-        if t.place.offset == at.offset {
+        if t.place.offset == at.offset && has_text(t.kind) {
             return part(bytes, t.place.offset as usize, t.len as usize);
         }
     }
