@@ -32,3 +32,8 @@ abbrev pub PutLeaves : Result ℕ Failed → List ℕ → ℕ → ℕ → Option
 PutLeaves (Ok n) bytes before now old new =
     (now ≡ before) × (1 ≤ n) × (n ≤ length bytes) × (new ≡ appended old (take n bytes))
 PutLeaves (Err e) bytes before now old new = Rose before now × (before ≤ now) × (new ≡ old)
+
+-- what a sink of fixed room takes of some bytes: as many as there are, as it takes in a call and as it has room for; it fails where that is none
+abbrev pub TakesByRoom : Result ℕ Failed → List ℕ → ℕ → ℕ → ℕ → Type 0
+TakesByRoom (Ok n) bytes most room room_now = (n ≡ min (length bytes) (min most room)) × (room_now + n ≡ room)
+TakesByRoom (Err e) bytes most room room_now = (room ≡ 0) × (room_now ≡ 0)

@@ -31,6 +31,13 @@ bytes_in s = s.bytes.items
 abbrev pub sink_faults : MemSink → ℕ
 sink_faults s = s.faults
 
+-- how many more bytes a sink has room for, and how many it takes at most in a call
+abbrev pub room_in : MemSink → ℕ
+room_in s = s.room
+
+abbrev pub most_in : MemSink → ℕ
+most_in s = s.most
+
 abbrev pub out_faults : OutSink → ℕ
 out_faults s = s.faults
 
