@@ -17,7 +17,7 @@ use Rattle.mat_token.specs.Reads.{Outcome, Gives, Refuses, RefusesOnly}
 use Rattle.mat_token.specs.Outcome.{IsOutcome}
 use Rattle.mat_token.proofs.Once.{outcome_once}
 use Rattle.mat_parse.specs.Parsed.{Tree, Refused, IsBehind, IsParseOf, IsParse}
-use Rattle.mat_parse.proofs.HeaderNames.{header_names}
+use Rattle.mat_grammar.proofs.HeaderNames.{header_names}
 use Rattle.fi_eval.specs.Meaning.{function_named}
 use Rattle.c_tree.specs.Tree.{Fixed, Program}
 use Rattle.c_tree.specs.Layout.{layout}

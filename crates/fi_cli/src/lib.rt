@@ -6,8 +6,6 @@ mod call;
 mod hostile_tests;
 mod lines;
 mod names;
-#[cfg(test)]
-mod parse_tests;
 mod put;
 mod source;
 #[cfg(test)]

@@ -1,13 +1,13 @@
 -- Depths that agree up to 101 stay so.
 use Rattle.std.proofs.Common.{◌≡◌, ℕ, ◌+◌, min, List, [], ◌∷◌, ◌++◌, take, length, get_or, ◌<◌, arith, refl, ap, sym, ◌∙◌}
 use Rattle.std.proofs.lemmas.List.{take_all, take_more}
-use Rattle.mat_parse.specs.declared.pending.Frame.{Frame}
-use Rattle.mat_parse.specs.declared.pending.Body.{Body}
-use Rattle.mat_parse.specs.Machine as machine
-use Rattle.mat_parse.specs.Machine.{Right, Call, To, ByTo, Cells, Stack, Around, IfBody, ElseBody, WhileBody, ForBody, FunBody, Use, Target, Callee, Purpose, AssignTo, StoreTo, ArmTest, WhileTest, ForRange, Argument, Caller, InValue, InStatement}
-use Rattle.mat_parse.specs.Least.{around_depth, use_depth, purpose_depth, frame_depth, stack_depth, operand_depth, caller_depth}
-use Rattle.mat_parse.specs.Pending.{frame_view, stack_of, body_view, within_bodies}
-use Rattle.mat_parse.proofs.Stacks.{stack_last, bodies_last}
+use Rattle.mat_parts.specs.declared.pending.Frame.{Frame}
+use Rattle.mat_parts.specs.declared.pending.Body.{Body}
+use Rattle.mat_grammar.specs.Machine as machine
+use Rattle.mat_grammar.specs.Machine.{Right, Call, To, ByTo, Cells, Stack, Around, IfBody, ElseBody, WhileBody, ForBody, FunBody, Use, Target, Callee, Purpose, AssignTo, StoreTo, ArmTest, WhileTest, ForRange, Argument, Caller, InValue, InStatement}
+use Rattle.mat_grammar.specs.Least.{around_depth, use_depth, purpose_depth, frame_depth, stack_depth, operand_depth, caller_depth}
+use Rattle.mat_parts.specs.Pending.{frame_view, stack_of, body_view, within_bodies}
+use Rattle.mat_parts.proofs.Stacks.{stack_last, bodies_last}
 
 pub around_capped : (out : Around) (c d : ℕ) → min c 101 ≡ min d 101 → min (around_depth c out) 101 ≡ min (around_depth d out) 101
 around_capped (IfBody b at arms e out) c d h = around_capped out _ _ (omega arith)

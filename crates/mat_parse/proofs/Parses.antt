@@ -14,19 +14,19 @@ use Rattle.mat_token.specs.Lexeme.{Lexeme, lexeme_of, lexemes_of}
 use Rattle.mat_token.specs.Kept.{EndsOnce}
 use Rattle.mat_token.specs.Reads.{Outcome, Gives, Refuses, RefusesOnly}
 use Rattle.mat_token.proofs.Once.{outcome_once}
-use Rattle.mat_parse.specs.declared.pending.Reading.{Reading}
-use Rattle.mat_parse.specs.declared.pending.Reading.TheVariants as reading
-use Rattle.mat_parse.specs.Grammar.{file, IsShallow}
-use Rattle.mat_parse.specs.Refused.{shown, IsRefused}
-use Rattle.mat_parse.specs.Machine.{State, Complete, Stuck, step, finish, run, start, state}
-use Rattle.mat_parse.specs.Least.{least}
-use Rattle.mat_parse.specs.Pending.{state_view}
+use Rattle.mat_parts.specs.declared.pending.Reading.{Reading}
+use Rattle.mat_parts.specs.declared.pending.Reading.TheVariants as reading
+use Rattle.mat_grammar.specs.Grammar.{file, IsShallow}
+use Rattle.mat_grammar.specs.Refused.{shown, IsRefused}
+use Rattle.mat_grammar.specs.Machine.{State, Complete, Stuck, step, finish, run, start, state}
+use Rattle.mat_grammar.specs.Least.{least}
+use Rattle.mat_parts.specs.Pending.{state_view}
 use Rattle.mat_parse.specs.Parsed.{IsRefusalAt, Parsed, Tree, Refused, IsParseOf, IsBehind, IsParse}
-use Rattle.mat_parse.proofs.Sound.{run_whole}
-use Rattle.mat_parse.proofs.CompleteFile.{whole_runs, one_tree}
-use Rattle.mat_parse.proofs.Ends.{live, unlive, shallow, unshallow, shallow_live, steps_append}
-use Rattle.mat_parse.proofs.Refusals.{one_refusal, file_not_refused}
-use Rattle.mat_parse.proofs.Decide.{decided}
+use Rattle.mat_grammar.proofs.Sound.{run_whole}
+use Rattle.mat_grammar.proofs.CompleteFile.{whole_runs, one_tree}
+use Rattle.mat_grammar.proofs.Ends.{live, unlive, shallow, unshallow, shallow_live, steps_append}
+use Rattle.mat_grammar.proofs.Refusals.{one_refusal, file_not_refused}
+use Rattle.mat_grammar.proofs.Decide.{decided}
 
 -- the state of the code isn't stuck
 pub never_stuck : (r : Reading) → state_view r ≢ Stuck

@@ -1,7 +1,7 @@
 -- The families of what the parser reads.
 use Rattle.std.specs.Prelude.{ℕ}
-use Rattle.mat_parse.specs.declared.pending.Reading.{Reading}
-use Rattle.mat_parse.specs.declared.pending.Reading.TheVariants as reading
+use Rattle.mat_parts.specs.declared.pending.Reading.{Reading}
+use Rattle.mat_parts.specs.declared.pending.Reading.TheVariants as reading
 
 -- 0 in an expression, 1 in a statement, 2 in a bracket of names, 3 in or between the fronts of functions
 unfoldable pub family : Reading → ℕ

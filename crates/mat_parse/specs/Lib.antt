@@ -1,11 +1,2 @@
-pub mod Lang
-pub mod Spelling
-pub mod Grammar
-pub mod Words
-pub mod Machine
-pub mod Least
-pub mod Refused
-pub mod View
-pub mod Pending
 pub mod Families
 pub mod Parsed

@@ -7,10 +7,10 @@ use Rattle.mat_ast.specs.Depth.{file_depth}
 use Rattle.mat_token.specs.Lexeme.{Lexeme, lexemes_of}
 use Rattle.mat_token.specs.Reads.{Outcome, Gives, Refuses}
 use Rattle.mat_token.specs.Outcome.{IsOutcome}
-use Rattle.mat_parse.specs.Grammar.{file}
-use Rattle.mat_parse.specs.Machine.{State, Stuck}
-use Rattle.mat_parse.specs.Least.{least}
-use Rattle.mat_parse.specs.Refused.{shown, IsRefused}
+use Rattle.mat_grammar.specs.Grammar.{file}
+use Rattle.mat_grammar.specs.Machine.{State, Stuck}
+use Rattle.mat_grammar.specs.Least.{least}
+use Rattle.mat_grammar.specs.Refused.{shown, IsRefused}
 
 -- the refusal at a token behind which the machine is in this state
 abbrev pub IsRefusalAt : State → Lexeme → Refusal → Type 0

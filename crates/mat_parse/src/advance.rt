@@ -2,26 +2,28 @@
 
 ghost use Rattle.std.specs.Prelude.{IfOk, ◌≤◌};
 ghost use Rattle.mat_parse.specs.Families.{family};
-ghost use Rattle.mat_parse.specs.Machine.{go};
-ghost use Rattle.mat_parse.specs.Pending.{state_view, Goes};
+ghost use Rattle.mat_grammar.specs.Machine.{go};
+ghost use Rattle.mat_parts.specs.Pending.{state_view, Goes};
 
-use crate::blocks::after;
-use crate::bracket::{bare, between, gap};
-use crate::expression::operand;
 use crate::names::{
     between_functions, edge, edge_comma, head_equal, head_name, head_out, headed, heading,
     list_comma, list_next, listing, param, param_comma, params, tail, tail_comma,
 };
-use crate::operator::{after_compound, after_name};
-use crate::paren::{begun, listed};
-use crate::pending::Reading;
-use crate::statement::{called, calling, looped, looping, named, subscripted, targeted, within};
-use crate::word::Word;
 use fic_base::Place;
+use mat_grammar::Word;
+use mat_moves::blocks::after;
+use mat_moves::bracket::{bare, between, gap};
+use mat_moves::expression::operand;
+use mat_moves::operator::{after_compound, after_name};
+use mat_moves::paren::{begun, listed};
+use mat_moves::statement::{
+    called, calling, looped, looping, named, subscripted, targeted, within,
+};
+use mat_parts::pending::Reading;
 use std::alloc::{AllocError, Global};
 
 /// What comes at a word in or between the fronts of functions.
-#[tactic(auto, unfolding(crate::specs::Pending::state_view, crate::specs::Families::family))]
+#[tactic(auto, unfolding(mat_parts::specs::Pending::state_view, crate::specs::Families::family))]
 fn in_function(
     alloc: Global,
     reading: Reading,
@@ -56,7 +58,7 @@ fn in_function(
 }
 
 /// What comes at a word in a bracket of names, or in or between the fronts of functions.
-#[tactic(auto, unfolding(crate::specs::Pending::state_view, crate::specs::Families::family))]
+#[tactic(auto, unfolding(mat_parts::specs::Pending::state_view, crate::specs::Families::family))]
 fn in_names(
     alloc: Global,
     reading: Reading,
@@ -80,7 +82,7 @@ fn in_names(
 }
 
 /// What comes at a word outside expressions.
-#[tactic(auto, unfolding(crate::specs::Pending::state_view, crate::specs::Families::family))]
+#[tactic(auto, unfolding(mat_parts::specs::Pending::state_view, crate::specs::Families::family))]
 fn in_statement(
     alloc: Global,
     reading: Reading,
@@ -114,7 +116,7 @@ fn in_statement(
 }
 
 /// What comes at one more word, where `own` is its token's text; none if no file goes on so. Want of memory is its only refusal.
-#[tactic(auto, unfolding(crate::specs::Pending::state_view, crate::specs::Families::family))]
+#[tactic(auto, unfolding(mat_parts::specs::Pending::state_view, crate::specs::Families::family))]
 pub fn advance(
     alloc: Global,
     reading: Reading,

@@ -3,14 +3,14 @@
 ghost use Rattle.std.specs.Prelude.{◌≡◌, ◌≤◌, ◌↔◌, ◌+◌, [], ◌∷◌, IsTrue, min, max};
 ghost use Rattle.mat_ast.specs.View.{expr_view, block_view, args_view, rows_view};
 ghost use Rattle.mat_ast.specs.Depth.{depth, args_depth, rows_depth, row_depth, block_depth};
-ghost use Rattle.mat_parse.specs.View.{cells_view};
-ghost use Rattle.mat_parse.specs.Machine as machine;
-ghost use Rattle.mat_parse.specs.Least.{around_depth, use_depth, purpose_depth, frame_depth, stack_depth, operand_depth, need_depth, caller_depth, lister_depth, least};
-ghost use Rattle.mat_parse.specs.Pending.{body_view, around_view, use_view, purpose_view, caller_view, lister_view, frame_view, stack_of, state_view};
+ghost use Rattle.mat_parts.specs.View.{cells_view};
+ghost use Rattle.mat_grammar.specs.Machine as machine;
+ghost use Rattle.mat_grammar.specs.Least.{around_depth, use_depth, purpose_depth, frame_depth, stack_depth, operand_depth, need_depth, caller_depth, lister_depth, least};
+ghost use Rattle.mat_parts.specs.Pending.{body_view, around_view, use_view, purpose_view, caller_view, lister_view, frame_view, stack_of, state_view};
 
-use crate::body::Steps;
-use crate::part::{Given, Grid, Line, Part, deeper, greater};
-use crate::pending::{Around, Body, Caller, Frame, Lister, Pending, Purpose, Reading, Use};
+use mat_parts::body::Steps;
+use mat_parts::part::{Given, Grid, Line, Part, deeper, greater};
+use mat_parts::pending::{Around, Body, Caller, Frame, Lister, Pending, Purpose, Reading, Use};
 
 /// A number, at most 101.
 fn capped(deep: u32) -> u32
@@ -20,7 +20,7 @@ fn capped(deep: u32) -> u32
 }
 
 /// The depth of an open block with a part of this depth.
-#[tactic(auto, unfolding(crate::specs::Pending::body_view))]
+#[tactic(auto, unfolding(mat_parts::specs::Pending::body_view))]
 fn body_deep(deep: u32, body: &Body) -> u32
     ensures { (out : machine.Around) → min (around_depth result out) 101 ≡ min (around_depth deep (body_view body.now out)) 101 }
 {
@@ -59,7 +59,7 @@ fn around_deep(deep: u32, around: &Around) -> u32
 }
 
 /// The depth of a file with arguments of this depth in such parentheses, at most 101.
-#[tactic(auto, unfolding(crate::specs::Pending::use_view))]
+#[tactic(auto, unfolding(mat_parts::specs::Pending::use_view))]
 fn use_deep(deep: u32, used: &Use) -> u32
     ensures { result ≡ min (use_depth deep (use_view used.now)) 101 }
 {
@@ -76,7 +76,7 @@ fn use_deep(deep: u32, used: &Use) -> u32
 }
 
 /// The depth of a file with an expression of this depth for such a purpose, at most 101.
-#[tactic(auto, unfolding(crate::specs::Pending::purpose_view))]
+#[tactic(auto, unfolding(mat_parts::specs::Pending::purpose_view))]
 fn purpose_deep(deep: u32, purpose: &Purpose) -> u32
     ensures { result ≡ min (purpose_depth deep (purpose_view purpose.now)) 101 }
 {
@@ -103,7 +103,7 @@ fn purpose_deep(deep: u32, purpose: &Purpose) -> u32
 }
 
 /// The depth of an expression with a part of this depth below such a frame, at most 101.
-#[tactic(auto, unfolding(crate::specs::Pending::frame_view))]
+#[tactic(auto, unfolding(mat_parts::specs::Pending::frame_view))]
 fn frame_deep(deep: u32, frame: &Frame) -> u32
     ensures { result ≡ min (frame_depth (frame_view frame.now) deep) 101 }
 {
@@ -143,7 +143,7 @@ fn operand_deep(deep: u32, pending: &Pending) -> u32
 }
 
 /// 0 where a colon may come in place of a whole expression, and else 1.
-#[tactic(auto, unfolding(crate::specs::Pending::purpose_view))]
+#[tactic(auto, unfolding(mat_parts::specs::Pending::purpose_view))]
 fn purpose_floor(purpose: &Purpose) -> u32
     ensures { purpose_depth result (purpose_view purpose.now) ≡ need_depth [] (purpose_view purpose.now) }
 {
@@ -154,7 +154,7 @@ fn purpose_floor(purpose: &Purpose) -> u32
 }
 
 /// 0 where a colon may come in place of an operand below this frame, and else 1.
-#[tactic(auto, unfolding(crate::specs::Pending::frame_view))]
+#[tactic(auto, unfolding(mat_parts::specs::Pending::frame_view))]
 fn frame_floor(frame: &Frame) -> u32
     ensures { (st : machine.Stack) (k : machine.Purpose) → operand_depth result (frame_view frame.now ∷ st) k ≡ need_depth (frame_view frame.now ∷ st) k }
 {
@@ -175,7 +175,7 @@ fn need_deep(pending: &Pending) -> u32
 }
 
 /// The depth of a file with arguments of this depth, at most 101.
-#[tactic(auto, unfolding(crate::specs::Pending::caller_view))]
+#[tactic(auto, unfolding(mat_parts::specs::Pending::caller_view))]
 fn caller_deep(deep: u32, caller: &Caller) -> u32
     ensures { result ≡ min (caller_depth deep (caller_view caller.now)) 101 }
 {
@@ -186,7 +186,7 @@ fn caller_deep(deep: u32, caller: &Caller) -> u32
 }
 
 /// The depth of a file with a bracket of names, at most 101.
-#[tactic(auto, unfolding(crate::specs::Pending::lister_view))]
+#[tactic(auto, unfolding(mat_parts::specs::Pending::lister_view))]
 fn lister_deep(lister: &Lister) -> u32
     ensures { result ≡ min (lister_depth (lister_view lister.now)) 101 }
 {
@@ -249,7 +249,7 @@ fn have_deep(part: &Part, pending: &Pending) -> u32
 }
 
 /// The depth of the least file that goes on from a state, at most 101.
-#[tactic(auto, unfolding(crate::specs::Pending::state_view))]
+#[tactic(auto, unfolding(mat_parts::specs::Pending::state_view))]
 fn least_deep(reading: &Reading) -> u32
     ensures { result ≡ min (least (state_view reading.now)) 101 }
 {

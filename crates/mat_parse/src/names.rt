@@ -3,52 +3,20 @@
 ghost use Rattle.std.specs.Prelude.{◌≡◌, ◌∷◌, [], ◌++◌, IfOk};
 ghost use Rattle.mat_ast.specs.View.{block_view, funcs_view};
 ghost use Rattle.mat_ast.specs.Tree.{Done};
-ghost use Rattle.mat_parse.specs.Machine.{names_closed, edge, edge_comma, listing, list_comma, list_next, tail, tail_comma, between_functions, heading, head_out, head_equal, headed, head_name, params, param, param_comma, header_of, ident_at, FunBody, Within};
-ghost use Rattle.mat_parse.specs.Pending.{lister_view, header_view, around_view, Goes};
+ghost use Rattle.mat_grammar.specs.Machine.{names_closed, edge, edge_comma, listing, list_comma, list_next, tail, tail_comma, between_functions, heading, head_out, head_equal, headed, head_name, params, param, param_comma, header_of, ident_at, FunBody, Within};
+ghost use Rattle.mat_parts.specs.Pending.{lister_view, header_view, around_view, Goes};
 
-use crate::body::{Funcs, Header, no_steps};
-use crate::pending::{Around, Lister, Reading};
-use crate::word::{Mode, Word};
 use fic_base::{Place, Text};
 use mat_ast::Ident;
+use mat_grammar::{Mode, Word};
+use mat_parts::body::{Funcs, Header, no_steps};
+use mat_parts::name_list::{and_name, ident, one_name};
+use mat_parts::pending::{Around, Lister, Reading};
 use sqlite_items::Items;
 use std::alloc::{AllocError, Global};
 
-/// A name that is declared or assigned. Want of memory is its only refusal.
-pub fn ident(alloc: Global, place: Place, own: &[u8]) -> Result<Ident, AllocError>
-    ensures { IfOk result (λ made. made ≡ ident_at place own.now) }
-{
-    let text = Text::from_bytes(alloc, own)?;
-    Ok(Ident { text, place })
-}
-
-/// One name. Want of memory is its only refusal.
-fn one_name(alloc: Global, place: Place, own: &[u8]) -> Result<Items<Ident>, AllocError>
-    ensures { IfOk result (λ names. names ≡ ident_at place own.now ∷ []) }
-{
-    let name = ident(alloc, place, own)?;
-    let mut names = Items::new(alloc);
-    names.push(name)?;
-    Ok(names)
-}
-
-/// The names with one more. Want of memory is its only refusal.
-fn and_name(
-    alloc: Global,
-    names: Items<Ident>,
-    place: Place,
-    own: &[u8],
-) -> Result<Items<Ident>, AllocError>
-    ensures { IfOk result (λ made. made ≡ names ++ ident_at place own.now ∷ []) }
-{
-    let name = ident(alloc, place, own)?;
-    let mut names = names;
-    names.push(name)?;
-    Ok(names)
-}
-
 /// What comes behind a bracket of names.
-#[tactic(auto, unfolding(crate::specs::Pending::state_view, crate::specs::Machine::names_closed, crate::specs::Pending::lister_view))]
+#[tactic(auto, unfolding(mat_parts::specs::Pending::state_view, mat_grammar::specs::Machine::names_closed, mat_parts::specs::Pending::lister_view))]
 fn names_closed(lister: Lister, names: Items<Ident>) -> Option<Reading>
     ensures { Goes result (names_closed (lister_view lister) names) }
 {
@@ -59,7 +27,7 @@ fn names_closed(lister: Lister, names: Items<Ident>) -> Option<Reading>
 }
 
 /// What comes at a word before the names of a bracket. Want of memory is its only refusal.
-#[tactic(auto, unfolding(crate::specs::Pending::state_view, crate::specs::Machine::edge))]
+#[tactic(auto, unfolding(mat_parts::specs::Pending::state_view, mat_grammar::specs::Machine::edge))]
 pub fn edge(
     alloc: Global,
     place: Place,
@@ -82,7 +50,7 @@ pub fn edge(
 }
 
 /// What comes at a word behind a comma before the names of a bracket.
-#[tactic(auto, unfolding(crate::specs::Pending::state_view, crate::specs::Machine::edge_comma))]
+#[tactic(auto, unfolding(mat_parts::specs::Pending::state_view, mat_grammar::specs::Machine::edge_comma))]
 pub fn edge_comma(word: Word, lister: Lister) -> Option<Reading>
     ensures { Goes result (edge_comma word (lister_view lister)) }
 {
@@ -94,7 +62,7 @@ pub fn edge_comma(word: Word, lister: Lister) -> Option<Reading>
 }
 
 /// What comes at a word behind a name of a bracket.
-#[tactic(auto, unfolding(crate::specs::Pending::state_view, crate::specs::Machine::listing))]
+#[tactic(auto, unfolding(mat_parts::specs::Pending::state_view, mat_grammar::specs::Machine::listing))]
 pub fn listing(word: Word, lister: Lister, names: Items<Ident>) -> Option<Reading>
     ensures { Goes result (listing word (lister_view lister) names) }
 {
@@ -109,7 +77,7 @@ pub fn listing(word: Word, lister: Lister, names: Items<Ident>) -> Option<Readin
 }
 
 /// What comes at a word behind a comma after a name. Want of memory is its only refusal.
-#[tactic(auto, unfolding(crate::specs::Pending::state_view, crate::specs::Machine::list_comma))]
+#[tactic(auto, unfolding(mat_parts::specs::Pending::state_view, mat_grammar::specs::Machine::list_comma))]
 pub fn list_comma(
     alloc: Global,
     place: Place,
@@ -133,7 +101,7 @@ pub fn list_comma(
 }
 
 /// What comes at a word behind a separator after a name. Want of memory is its only refusal.
-#[tactic(auto, unfolding(crate::specs::Pending::state_view, crate::specs::Machine::list_next))]
+#[tactic(auto, unfolding(mat_parts::specs::Pending::state_view, mat_grammar::specs::Machine::list_next))]
 pub fn list_next(
     alloc: Global,
     place: Place,
@@ -154,7 +122,7 @@ pub fn list_next(
 }
 
 /// What comes at a word behind the names of a bracket and a row end.
-#[tactic(auto, unfolding(crate::specs::Pending::state_view, crate::specs::Machine::tail))]
+#[tactic(auto, unfolding(mat_parts::specs::Pending::state_view, mat_grammar::specs::Machine::tail))]
 pub fn tail(word: Word, lister: Lister, names: Items<Ident>) -> Option<Reading>
     ensures { Goes result (tail word (lister_view lister) names) }
 {
@@ -168,7 +136,7 @@ pub fn tail(word: Word, lister: Lister, names: Items<Ident>) -> Option<Reading>
 }
 
 /// What comes at a word behind a comma there.
-#[tactic(auto, unfolding(crate::specs::Pending::state_view, crate::specs::Machine::tail_comma))]
+#[tactic(auto, unfolding(mat_parts::specs::Pending::state_view, mat_grammar::specs::Machine::tail_comma))]
 pub fn tail_comma(word: Word, lister: Lister, names: Items<Ident>) -> Option<Reading>
     ensures { Goes result (tail_comma word (lister_view lister) names) }
 {
@@ -181,7 +149,7 @@ pub fn tail_comma(word: Word, lister: Lister, names: Items<Ident>) -> Option<Rea
 }
 
 /// What comes at a word between functions.
-#[tactic(auto, unfolding(crate::specs::Pending::state_view, crate::specs::Machine::between_functions))]
+#[tactic(auto, unfolding(mat_parts::specs::Pending::state_view, mat_grammar::specs::Machine::between_functions))]
 pub fn between_functions(word: Word, mode: Mode, funcs: Funcs) -> Option<Reading>
     ensures { Goes result (between_functions word mode (funcs_view funcs.funcs.items)) }
 {
@@ -196,7 +164,7 @@ pub fn between_functions(word: Word, mode: Mode, funcs: Funcs) -> Option<Reading
 }
 
 /// What comes at a word behind `function`. Want of memory is its only refusal.
-#[tactic(auto, unfolding(crate::specs::Pending::state_view, crate::specs::Machine::heading, crate::specs::Pending::lister_view))]
+#[tactic(auto, unfolding(mat_parts::specs::Pending::state_view, mat_grammar::specs::Machine::heading, mat_parts::specs::Pending::lister_view))]
 pub fn heading(
     alloc: Global,
     place: Place,
@@ -218,7 +186,7 @@ pub fn heading(
 }
 
 /// What comes at a word behind the outputs of a function.
-#[tactic(auto, unfolding(crate::specs::Pending::state_view, crate::specs::Machine::head_out))]
+#[tactic(auto, unfolding(mat_parts::specs::Pending::state_view, mat_grammar::specs::Machine::head_out))]
 pub fn head_out(word: Word, mode: Mode, funcs: Funcs, outputs: Items<Ident>) -> Option<Reading>
     ensures { Goes result (head_out word mode (funcs_view funcs.funcs.items) outputs) }
 {
@@ -229,7 +197,7 @@ pub fn head_out(word: Word, mode: Mode, funcs: Funcs, outputs: Items<Ident>) -> 
 }
 
 /// What comes at a word behind the outputs and their `=`. Want of memory is its only refusal.
-#[tactic(auto, unfolding(crate::specs::Pending::state_view, crate::specs::Machine::head_equal))]
+#[tactic(auto, unfolding(mat_parts::specs::Pending::state_view, mat_grammar::specs::Machine::head_equal))]
 pub fn head_equal(
     alloc: Global,
     place: Place,
@@ -251,7 +219,7 @@ pub fn head_equal(
 }
 
 /// The body of a function begins.
-#[tactic(auto, unfolding(crate::specs::Pending::state_view, crate::specs::Pending::around_view))]
+#[tactic(auto, unfolding(mat_parts::specs::Pending::state_view, mat_parts::specs::Pending::around_view))]
 fn opened(alloc: Global, mode: Mode, funcs: Funcs, header: Header) -> Option<Reading>
     ensures { Goes result (Within Done (FunBody mode (funcs_view funcs.funcs.items) (header_view header))) }
 {
@@ -265,7 +233,7 @@ fn opened(alloc: Global, mode: Mode, funcs: Funcs, header: Header) -> Option<Rea
 }
 
 /// What comes at a word behind a whole header.
-#[tactic(auto, unfolding(crate::specs::Pending::state_view, crate::specs::Machine::headed))]
+#[tactic(auto, unfolding(mat_parts::specs::Pending::state_view, mat_grammar::specs::Machine::headed))]
 pub fn headed(
     alloc: Global,
     word: Word,
@@ -284,7 +252,7 @@ pub fn headed(
 }
 
 /// What comes at a word behind the name of a function.
-#[tactic(auto, unfolding(crate::specs::Pending::state_view, crate::specs::Machine::head_name, crate::specs::Pending::header_view))]
+#[tactic(auto, unfolding(mat_parts::specs::Pending::state_view, mat_grammar::specs::Machine::head_name, mat_parts::specs::Pending::header_view))]
 pub fn head_name(
     alloc: Global,
     word: Word,
@@ -309,7 +277,7 @@ pub fn head_name(
 }
 
 /// What comes at a word behind the parenthesis of the inputs. Want of memory is its only refusal.
-#[tactic(auto, unfolding(crate::specs::Pending::state_view, crate::specs::Machine::params, crate::specs::Pending::header_view))]
+#[tactic(auto, unfolding(mat_parts::specs::Pending::state_view, mat_grammar::specs::Machine::params, mat_parts::specs::Pending::header_view))]
 pub fn params(
     alloc: Global,
     place: Place,
@@ -345,7 +313,7 @@ pub fn params(
 }
 
 /// What comes at a word behind an input.
-#[tactic(auto, unfolding(crate::specs::Pending::state_view, crate::specs::Machine::param))]
+#[tactic(auto, unfolding(mat_parts::specs::Pending::state_view, mat_grammar::specs::Machine::param))]
 pub fn param(word: Word, mode: Mode, funcs: Funcs, header: Header) -> Option<Reading>
     ensures { Goes result (param word mode (funcs_view funcs.funcs.items) (header_view header)) }
 {
@@ -357,7 +325,7 @@ pub fn param(word: Word, mode: Mode, funcs: Funcs, header: Header) -> Option<Rea
 }
 
 /// What comes at a word behind a comma after an input. Want of memory is its only refusal.
-#[tactic(auto, unfolding(crate::specs::Pending::state_view, crate::specs::Machine::param_comma, crate::specs::Pending::header_view))]
+#[tactic(auto, unfolding(mat_parts::specs::Pending::state_view, mat_grammar::specs::Machine::param_comma, mat_parts::specs::Pending::header_view))]
 pub fn param_comma(
     alloc: Global,
     place: Place,

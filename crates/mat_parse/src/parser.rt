@@ -6,19 +6,19 @@ ghost use Rattle.mat_token.specs.Lexeme.{lexeme_of, lexemes_of, text_of};
 ghost use Rattle.mat_token.specs.Kept.{AreTokensOf};
 ghost use Rattle.mat_token.specs.Outcome.{IsOutcome};
 ghost use Rattle.mat_token.specs.Reads.{Gives, RefusesOnly};
-ghost use Rattle.mat_parse.specs.Machine.{Complete, step, finish};
-ghost use Rattle.mat_parse.specs.Least.{least};
-ghost use Rattle.mat_parse.specs.Pending.{state_view};
-ghost use Rattle.mat_parse.specs.Refused.{shown};
+ghost use Rattle.mat_grammar.specs.Machine.{Complete, step, finish};
+ghost use Rattle.mat_grammar.specs.Least.{least};
+ghost use Rattle.mat_parts.specs.Pending.{state_view};
+ghost use Rattle.mat_grammar.specs.Refused.{shown};
 ghost use Rattle.mat_parse.specs.Parsed.{IsRefusalAt, Parsed, Tree, Refused, IsParseOf, IsParse};
 
 use crate::advance::advance;
-use crate::body::{Funcs, no_funcs};
 use crate::least::is_shallow;
-use crate::pending::Reading;
-use crate::word::{Mode, word_of};
 use fic_base::{Code, Place, Refusal, Text};
 use mat_ast::File;
+use mat_grammar::{Mode, word_of};
+use mat_parts::body::{Funcs, no_funcs};
+use mat_parts::pending::Reading;
 use mat_token::{Kind, Token, TokenList, tokens};
 use num_type::Stop;
 use std::alloc::{AllocError, Global};
@@ -112,7 +112,7 @@ fn step(
 }
 
 /// The functions of a file whose end was read; None elsewhere.
-#[tactic(auto, unfolding(crate::specs::Pending::state_view))]
+#[tactic(auto, unfolding(mat_parts::specs::Pending::state_view))]
 fn whole(reading: Reading) -> Option<Funcs>
     ensures { MatchOption result (finish (state_view reading) ≡ None) (λ funcs. state_view reading ≡ Complete (funcs_view funcs.funcs.items)) }
 {

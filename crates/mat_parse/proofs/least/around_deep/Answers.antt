@@ -1,7 +1,7 @@
 use Rattle.std.proofs.Common.{arith, ◌-◌}
 use Rattle.mat_ast.specs.View.{funcs_view}
-use Rattle.mat_parse.specs.Machine.{FunBody}
-use Rattle.mat_parse.specs.Pending.{header_view, around_view}
+use Rattle.mat_grammar.specs.Machine.{FunBody}
+use Rattle.mat_parts.specs.Pending.{header_view, around_view}
 use Rattle.mat_parse.proofs.Capped.{took, around_all, around_down}
 use Rattle.mat_parse.proofs.least.around_deep.Goals as goal
 

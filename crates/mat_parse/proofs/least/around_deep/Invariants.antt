@@ -1,8 +1,8 @@
 use Rattle.std.proofs.Common.{◌≡◌, ◌≤◌, min, take, length}
 use Rattle.mat_ast.specs.View.{funcs_view}
-use Rattle.mat_parse.specs.Machine.{FunBody}
-use Rattle.mat_parse.specs.Least.{around_depth}
-use Rattle.mat_parse.specs.Pending.{within_bodies, header_view, around_view}
+use Rattle.mat_grammar.specs.Machine.{FunBody}
+use Rattle.mat_grammar.specs.Least.{around_depth}
+use Rattle.mat_parts.specs.Pending.{within_bodies, header_view, around_view}
 use Rattle.mat_parse.proofs.least.around_deep.Given as goal
 
 abbrev pub invariant-loop-left : goal.invariant-loop-left

@@ -1,8 +1,8 @@
 use Rattle.std.proofs.Common.{◌+◌, max, ap, arith}
 use Rattle.mat_ast.specs.View.{expr_view, block_view, arms_view}
 use Rattle.mat_ast.specs.Depth.{depth, arms_depth, block_depth}
-use Rattle.mat_parse.specs.Least.{around_depth}
-use Rattle.mat_parse.specs.Pending.{body_view}
+use Rattle.mat_grammar.specs.Least.{around_depth}
+use Rattle.mat_parts.specs.Pending.{body_view}
 use Rattle.mat_parse.proofs.Capped.{same_around}
 use Rattle.mat_parse.proofs.least.body_deep.Goals as goal
 

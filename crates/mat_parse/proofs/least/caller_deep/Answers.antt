@@ -1,6 +1,6 @@
 use Rattle.std.proofs.Common.{arith, ◌+◌, ◌∙◌, ap, sym, min}
-use Rattle.mat_parse.specs.Least.{caller_depth}
-use Rattle.mat_parse.specs.Pending.{purpose_view, caller_view, stack_of}
+use Rattle.mat_grammar.specs.Least.{caller_depth}
+use Rattle.mat_parts.specs.Pending.{purpose_view, caller_view, stack_of}
 use Rattle.mat_parse.proofs.Capped.{operand_capped}
 use Rattle.mat_parse.proofs.least.caller_deep.Goals as goal
 

@@ -1,7 +1,7 @@
 use Rattle.std.proofs.Common.{arith, ◌∙◌}
 use Rattle.mat_ast.specs.View.{args_view}
 use Rattle.mat_ast.specs.Depth.{args_depth}
-use Rattle.mat_parse.specs.Pending.{caller_view}
+use Rattle.mat_parts.specs.Pending.{caller_view}
 use Rattle.mat_parse.proofs.Capped.{caller_capped}
 use Rattle.mat_parse.proofs.least.given_deep.Goals as goal
 

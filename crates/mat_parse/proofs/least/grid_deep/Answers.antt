@@ -1,7 +1,7 @@
 use Rattle.std.proofs.Common.{arith, ◌+◌, ◌∙◌}
 use Rattle.mat_ast.specs.View.{rows_view}
 use Rattle.mat_ast.specs.Depth.{rows_depth}
-use Rattle.mat_parse.specs.Pending.{purpose_view, stack_of}
+use Rattle.mat_parts.specs.Pending.{purpose_view, stack_of}
 use Rattle.mat_parse.proofs.Capped.{operand_capped}
 use Rattle.mat_parse.proofs.least.grid_deep.Goals as goal
 

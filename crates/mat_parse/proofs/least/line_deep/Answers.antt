@@ -1,8 +1,8 @@
 use Rattle.std.proofs.Common.{arith, ◌+◌, ◌∙◌, max}
 use Rattle.mat_ast.specs.View.{rows_view}
 use Rattle.mat_ast.specs.Depth.{rows_depth, row_depth}
-use Rattle.mat_parse.specs.View.{cells_view}
-use Rattle.mat_parse.specs.Pending.{purpose_view, stack_of}
+use Rattle.mat_parts.specs.View.{cells_view}
+use Rattle.mat_parts.specs.Pending.{purpose_view, stack_of}
 use Rattle.mat_parse.proofs.Capped.{operand_capped}
 use Rattle.mat_parse.proofs.least.line_deep.Goals as goal
 

@@ -1,7 +1,7 @@
 use Rattle.std.proofs.Common.{◌≡◌, ◌∷◌, ◌∙◌, ap, sym, min}
-use Rattle.mat_parse.specs.Least.{operand_depth, need_depth}
-use Rattle.mat_parse.specs.Pending.{purpose_view, frame_view, stack_of}
-use Rattle.mat_parse.proofs.Stacks.{stack_last}
+use Rattle.mat_grammar.specs.Least.{operand_depth, need_depth}
+use Rattle.mat_parts.specs.Pending.{purpose_view, frame_view, stack_of}
+use Rattle.mat_parts.proofs.Stacks.{stack_last}
 use Rattle.mat_parse.proofs.Capped.{no_frames}
 use Rattle.mat_parse.proofs.least.need_deep.Goals as goal
 

@@ -1,6 +1,6 @@
 use Rattle.std.proofs.Common.{arith, ◌∙◌, ap}
-use Rattle.mat_parse.specs.Least.{stack_depth}
-use Rattle.mat_parse.specs.Pending.{purpose_view, stack_of}
+use Rattle.mat_grammar.specs.Least.{stack_depth}
+use Rattle.mat_parts.specs.Pending.{purpose_view, stack_of}
 use Rattle.mat_parse.proofs.Capped.{purpose_capped}
 use Rattle.mat_parse.proofs.least.operand_deep.Goals as goal
 

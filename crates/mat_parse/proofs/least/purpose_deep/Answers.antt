@@ -1,8 +1,8 @@
 use Rattle.std.proofs.Common.{arith, ◌+◌, ◌∙◌, ap, sym, min, max}
 use Rattle.mat_ast.specs.View.{block_view, args_view, arms_view}
 use Rattle.mat_ast.specs.Depth.{args_depth, arms_depth, block_depth}
-use Rattle.mat_parse.specs.Least.{purpose_depth}
-use Rattle.mat_parse.specs.Pending.{around_view, use_view, purpose_view}
+use Rattle.mat_grammar.specs.Least.{purpose_depth}
+use Rattle.mat_parts.specs.Pending.{around_view, use_view, purpose_view}
 use Rattle.mat_parse.proofs.Capped.{around_capped, use_capped}
 use Rattle.mat_parse.proofs.least.purpose_deep.Goals as goal
 

@@ -1,6 +1,6 @@
 use Rattle.std.proofs.Common.{◌≡◌, ◌≤◌, min, take, length}
-use Rattle.mat_parse.specs.Least.{stack_depth}
-use Rattle.mat_parse.specs.Pending.{stack_of}
+use Rattle.mat_grammar.specs.Least.{stack_depth}
+use Rattle.mat_parts.specs.Pending.{stack_of}
 use Rattle.mat_parse.proofs.least.stack_deep.Given as goal
 
 abbrev pub invariant-loop-left : goal.invariant-loop-left

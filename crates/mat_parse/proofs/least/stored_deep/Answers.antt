@@ -1,7 +1,7 @@
 use Rattle.std.proofs.Common.{arith, ◌+◌, ◌∙◌, max}
 use Rattle.mat_ast.specs.View.{block_view, args_view}
 use Rattle.mat_ast.specs.Depth.{args_depth, block_depth}
-use Rattle.mat_parse.specs.Pending.{around_view}
+use Rattle.mat_parts.specs.Pending.{around_view}
 use Rattle.mat_parse.proofs.Capped.{around_capped}
 use Rattle.mat_parse.proofs.least.stored_deep.Goals as goal
 

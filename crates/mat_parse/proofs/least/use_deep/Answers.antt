@@ -1,8 +1,8 @@
 use Rattle.std.proofs.Common.{arith, ◌+◌, ◌∙◌, ap, sym, min, max}
 use Rattle.mat_ast.specs.View.{block_view}
 use Rattle.mat_ast.specs.Depth.{block_depth}
-use Rattle.mat_parse.specs.Least.{use_depth}
-use Rattle.mat_parse.specs.Pending.{around_view, use_view}
+use Rattle.mat_grammar.specs.Least.{use_depth}
+use Rattle.mat_parts.specs.Pending.{around_view, use_view}
 use Rattle.mat_parse.proofs.Capped.{around_capped}
 use Rattle.mat_parse.proofs.least.use_deep.Goals as goal
 

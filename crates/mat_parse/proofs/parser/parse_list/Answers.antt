@@ -2,7 +2,7 @@ use Rattle.std.proofs.Common.{sym, subst}
 use Rattle.mat_ast.specs.View.{funcs_view}
 use Rattle.mat_token.specs.Kept.{AreTokensOf}
 use Rattle.mat_token.proofs.Kept.{tokens_kept}
-use Rattle.mat_parse.proofs.Keeps.{tokens_keep}
+use Rattle.mat_grammar.proofs.Keeps.{tokens_keep}
 use Rattle.mat_parse.proofs.parser.parse_list.Goals as goal
 
 pub parse_tokens-requires : goal.parse_tokens-requires

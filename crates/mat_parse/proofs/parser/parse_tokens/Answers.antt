@@ -3,9 +3,9 @@ use Rattle.std.proofs.lemmas.Result.{err_from_is_err_and}
 use Rattle.mat_ast.specs.View.{funcs_view}
 use Rattle.mat_ast.specs.Depth.{file_depth}
 use Rattle.mat_token.specs.Lexeme.{lexeme_of, lexemes_of}
-use Rattle.mat_parse.specs.declared.word.Mode.TheVariants as mode
-use Rattle.mat_parse.specs.Machine.{Top, step}
-use Rattle.mat_parse.specs.Pending.{state_view}
+use Rattle.mat_grammar.specs.declared.word.Mode.TheVariants as mode
+use Rattle.mat_grammar.specs.Machine.{Top, step}
+use Rattle.mat_parts.specs.Pending.{state_view}
 use Rattle.mat_parse.proofs.Parses.{no_token, at_index, state_more, list_refused, ends_whole, whole_tree, all_read}
 use Rattle.mat_parse.proofs.parser.parse_tokens.Goals as goal
 

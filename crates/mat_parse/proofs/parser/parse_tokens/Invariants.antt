@@ -1,8 +1,8 @@
 use Rattle.std.proofs.Common.{◌≡◌, ◌≤◌, ◌-◌, take, length}
 use Rattle.mat_token.specs.Lexeme.{lexemes_of}
-use Rattle.mat_parse.specs.Machine.{state}
-use Rattle.mat_parse.specs.Least.{least}
-use Rattle.mat_parse.specs.Pending.{state_view}
+use Rattle.mat_grammar.specs.Machine.{state}
+use Rattle.mat_grammar.specs.Least.{least}
+use Rattle.mat_parts.specs.Pending.{state_view}
 use Rattle.mat_parse.proofs.parser.parse_tokens.Given as goal
 
 abbrev pub invariant-loop-index : goal.invariant-loop-index

@@ -1,8 +1,8 @@
 use Rattle.std.proofs.Common.{◌≡◌, ◌∙◌, true, false, ap, sym, subst}
 use Rattle.mat_token.specs.Lexeme.{lexeme_of}
-use Rattle.mat_parse.specs.Machine.{go, step}
-use Rattle.mat_parse.specs.Words.{word_of}
-use Rattle.mat_parse.specs.Pending.{Goes, state_view}
+use Rattle.mat_grammar.specs.Machine.{go, step}
+use Rattle.mat_grammar.specs.Words.{word_of}
+use Rattle.mat_parts.specs.Pending.{Goes, state_view}
 use Rattle.mat_parse.proofs.Parses.{deep_refused}
 use Rattle.mat_parse.proofs.parser.step.Goals as goal
 

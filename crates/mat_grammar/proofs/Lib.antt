@@ -1,0 +1,16 @@
+pub mod Words
+pub mod Join
+pub mod Texts
+pub mod ReadUp
+pub mod Sound
+pub mod Settle
+pub mod Depths
+pub mod Complete
+pub mod CompleteFile
+pub mod Deeper
+pub mod Ends
+pub mod Refusals
+pub mod Decide
+pub mod Keeps
+pub mod HeaderNames
+pub mod Scans

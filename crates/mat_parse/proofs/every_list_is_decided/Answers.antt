@@ -1,5 +1,0 @@
-use Rattle.mat_parse.proofs.Decide.{decided}
-use Rattle.mat_parse.proofs.every_list_is_decided.Goals as goal
-
-pub returns : goal.returns
-returns c = decided

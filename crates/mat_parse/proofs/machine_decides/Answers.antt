@@ -1,6 +1,0 @@
-use Rattle.mat_parse.proofs.CompleteFile.{whole_runs}
-use Rattle.mat_parse.proofs.Sound.{run_whole}
-use Rattle.mat_parse.proofs.machine_decides.Goals as goal
-
-pub returns : goal.returns
-returns c = λ fs ts. (whole_runs fs ts, λ h. run_whole ts fs h)

@@ -1,4 +1,0 @@
-use Rattle.mat_parse.proofs.shallow_is_live.Goals as goal
-
-pub returns : goal.returns
-returns c = λ ts h. (h.0, h.1, h.3)

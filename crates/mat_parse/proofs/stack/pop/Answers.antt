@@ -1,5 +1,0 @@
-use Rattle.mat_parse.proofs.Stacks.{popped}
-use Rattle.mat_parse.proofs.stack.pop.Goals as goal
-
-pub returns : goal.returns
-returns c = popped c.pop.result c.args.stack.now c.pop.new.self c.pop.ensures

@@ -1,7 +1,0 @@
-use Rattle.std.proofs.Common.{ap, ◌∙◌}
-use Rattle.mat_parse.specs.Pending.{stack_of}
-use Rattle.mat_parse.proofs.Stacks.{stack_last, on_ok}
-use Rattle.mat_parse.proofs.stack.push.Goals as goal
-
-pub returns : goal.returns
-returns c = on_ok c.push.result (λ e. ap stack_of e ∙ stack_last c.args.stack.now c.args.frame) c.push.ensures.ok

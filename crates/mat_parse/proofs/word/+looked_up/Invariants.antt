@@ -1,5 +1,0 @@
-use Rattle.std.proofs.Common.{length}
-use Rattle.mat_parse.proofs.word.+looked_up.Given as goal
-
-abbrev pub decreases-looked_up : goal.decreases-looked_up
-decreases-looked_up l = length l.words.now

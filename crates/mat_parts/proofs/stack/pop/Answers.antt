@@ -1,0 +1,5 @@
+use Rattle.mat_parts.proofs.Stacks.{popped}
+use Rattle.mat_parts.proofs.stack.pop.Goals as goal
+
+pub returns : goal.returns
+returns c = popped c.pop.result c.args.stack.now c.pop.new.self c.pop.ensures
