@@ -29,6 +29,12 @@ listed_reverse name (x ∷ xs) =
     turned false true = refl
     turned false false = refl
 
+-- one more name at the end
+pub longer : {A : Type 0} (g : A → List ℕ) (xs : List A) (k : ℕ) (x : A) → k < length xs → x ≡ get_or xs k x → map g (take k xs) ++ g x ∷ [] ≡ map g (take (k + 1) xs)
+longer g xs k x h is =
+    sym (ap (map g) (take_more xs k x h ∙ ap (λ m. take k xs ++ (m ∷ [])) (sym is))
+    ∙ map-append g (take k xs) (x ∷ []))
+
 -- one more name
 pub grown : {A : Type 0} (g : A → List ℕ) (xs : List A) (k : ℕ) (x : A) → k < length xs → x ≡ get_or xs k x → g x ∷ reverse (map g (take k xs)) ≡ reverse (map g (take (k + 1) xs))
 grown g xs k x h is =

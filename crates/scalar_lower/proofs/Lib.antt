@@ -9,6 +9,7 @@ pub mod Forms
 pub mod Programs
 pub mod Whole
 pub mod Entries
+pub mod Tables
 pub mod Lows
 pub mod Views
 pub mod Steps

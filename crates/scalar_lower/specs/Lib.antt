@@ -1,5 +1,6 @@
 pub mod Told
 pub mod Names
+pub mod NameSets
 pub mod Walk
 pub mod Lowered
 pub mod Correspondence

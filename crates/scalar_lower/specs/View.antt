@@ -1,5 +1,5 @@
 -- What values of the code stand for.
-use Rattle.std.specs.Prelude.{◌≡◌, ℕ, suc, if◌then◌else◌, List, [], ◌∷◌, map, Option, Some, Result, Ok, Err, bytes_eq, find, option_map}
+use Rattle.std.specs.Prelude.{◌≡◌, ℕ, List, map, Option, Some, Result, Ok, Err, bytes_eq, option_map}
 use Rattle.fic_base.specs.declared.refusal.Refusal.{Refusal}
 use Rattle.num_type.specs.declared.memory.Stop.{Stop}
 use Rattle.num_type.specs.declared.memory.Stop.TheVariants as stop
@@ -8,13 +8,14 @@ use Rattle.c_tree.specs.View.{stmt_view}
 use Rattle.scalar_lower.specs.declared.operand.Spot as code_spot
 use Rattle.scalar_lower.specs.declared.operand.Spot.TheVariants as spot
 use Rattle.scalar_lower.specs.declared.operand.Operand as code_operand
-use Rattle.scalar_lower.specs.declared.variables.Named.{Named}
 use Rattle.scalar_lower.specs.declared.variables.Variables.{Variables}
 use Rattle.scalar_lower.specs.declared.emitted.Emitted as code_emitted
 use Rattle.scalar_lower.specs.declared.scope.Scope as code_scope
 use Rattle.fic_base.specs.declared.code.Code.{Code}
 use Rattle.fic_base.specs.declared.place.Place.{Place}
 use Rattle.std.specs.Borrow.{Bor}
+use Rattle.std.specs.HashMap.{get_by}
+use Rattle.scalar_lower.specs.NameSets.{names_in}
 use Rattle.mat_token.specs.Lexeme.{lexemes_of}
 use Rattle.scalar_lower.specs.Shown.{text_at}
 use Rattle.scalar_lower.specs.Walk.{Scope, Types, Typed, Walked}
@@ -31,17 +32,9 @@ spot_view (spot.Variable k) = Variable k
 abbrev pub operand_view : code_operand.Operand → Operand
 operand_view o = record { spot = spot_view o.spot; num = type_of o.num }
 
--- the operand of the first entry of a name
-abbrev pub operand_in : List Named → Names
-operand_in list name = option_map (λ n. operand_view n.operand) (find (λ n. bytes_eq n.name name) list)
-
--- where the first entry of a name stands, or the number of entries
-abbrev pub place_of : List Named → List ℕ → ℕ
-place_of [] name = 0
-place_of (n ∷ more) name = if bytes_eq n.name name then 0 else suc (place_of more name)
-
+-- the operands of the variables by their names
 abbrev pub names_view : Variables → Names
-names_view v = operand_in v.list.items
+names_view v name = option_map operand_view (get_by (λ k. bytes_eq name k.items) v.table)
 
 abbrev pub emitted_view : code_emitted.Emitted → Emitted
 emitted_view e = record { sets = map stmt_view e.sets; words = e.words }
@@ -56,7 +49,7 @@ abbrev pub types_view : Variables → Types
 types_view v name = option_map (λ o. o.num) (names_view v name)
 
 abbrev pub scope_view : code_scope.Scope → Scope
-scope_view s = record { variables = s.variables.now; functions = map (λ f. f.name.text) s.funcs.now; shown = text_at (lexemes_of s.bytes.now s.tokens.now) }
+scope_view s = record { variables = names_in s.variables.now; functions = names_in s.functions.now; shown = text_at (lexemes_of s.bytes.now s.tokens.now) }
 
 abbrev pub around_view : Option (Bor (List ℕ)) → Option (List ℕ)
 around_view = option_map (λ b. b.now)

@@ -42,11 +42,11 @@ pub fn lower_file(
 {
     match find_entry(funcs, entry) {
         Some(f) => {
-            check_headers(funcs, alloc)?;
+            let functions = check_headers(funcs, alloc)?;
             let variables = variables_of(f, alloc)?;
             let scope = Scope {
-                variables: variables.as_slice(),
-                funcs,
+                variables: &variables,
+                functions: &functions,
                 bytes,
                 tokens,
             };

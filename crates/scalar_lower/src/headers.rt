@@ -1,13 +1,15 @@
 //! The names of headers.
 
-ghost use Rattle.std.specs.Prelude.{◌≡◌, ℕ, List, [], ◌∷◌, map, reverse};
+ghost use Rattle.std.specs.Prelude.{◌≡◌, ℕ, List, [], ◌∷◌, map, reverse, IfOk};
 ghost use Rattle.mat_ast.specs.View.{func_view, funcs_view};
 ghost use Rattle.scalar_lower.specs.Names.{is_listed};
+ghost use Rattle.scalar_lower.specs.NameSets.{names_in};
 ghost use Rattle.scalar_lower.specs.View.{Tells};
 ghost use Rattle.scalar_lower.specs.Walk as walk;
 
+use crate::name_set::NameSet;
 use crate::names::is_reserved;
-use crate::scope::{is_among_functions, refused};
+use crate::scope::refused;
 use fic_base::{Code, Refusal};
 use mat_ast::{Func, Ident};
 use num_type::Stop;
@@ -15,21 +17,25 @@ use std::alloc::Global;
 
 /// The headers of a file: for each the outputs, the function's name and the inputs. Refused exactly as the definition tells; want of
 /// memory is the free answer.
-pub fn check_headers(funcs: &[Func], alloc: Global) -> Result<(), Stop<Refusal>>
-    ensures told { Tells result (λ u. reverse (map (λ f. f.name.text) funcs.now)) (walk.headers_checked (funcs_view funcs.now) []) }
+pub fn check_headers(funcs: &[Func], alloc: Global) -> Result<NameSet, Stop<Refusal>>
+    ensures told { Tells result (λ s. reverse (map (λ f. f.name.text) funcs.now)) (walk.headers_checked (funcs_view funcs.now) []) }
+    ensures names { IfOk result (λ s. names_in s ≡ map (λ f. f.name.text) funcs.now) }
 {
+    let mut seen = NameSet::new(alloc);
     for k in 0..funcs.len() {
-        check_header(&funcs[k], funcs.split_at(k).0, alloc)?;
+        let f = &funcs[k];
+        check_header(f, &seen, alloc)?;
+        seen.insert(alloc, f.name.text.as_bytes())?;
     }
-    Ok(())
+    Ok(seen)
 }
 
-// A header behind those before it.
-fn check_header(f: &Func, before: &[Func], alloc: Global) -> Result<(), Stop<Refusal>>
-    ensures told { Tells result (λ u. f.now.name.text ∷ reverse (map (λ g. g.name.text) before.now)) (walk.headers_checked (func_view f.now ∷ []) (reverse (map (λ g. g.name.text) before.now))) }
+// A header behind those of these names.
+fn check_header(f: &Func, before: &NameSet, alloc: Global) -> Result<(), Stop<Refusal>>
+    ensures told { Tells result (λ u. f.now.name.text ∷ reverse (names_in before.now)) (walk.headers_checked (func_view f.now ∷ []) (reverse (names_in before.now))) }
 {
     check_names(f.outputs.as_slice(), alloc)?;
-    let repeated = is_among_functions(f.name.text.as_bytes(), before);
+    let repeated = before.contains(f.name.text.as_bytes());
     check_name(alloc, &f.name, repeated)?;
     check_names(f.inputs.as_slice(), alloc)?;
     Ok(())
@@ -39,10 +45,12 @@ fn check_header(f: &Func, before: &[Func], alloc: Global) -> Result<(), Stop<Ref
 fn check_names(names: &[Ident], alloc: Global) -> Result<(), Stop<Refusal>>
     ensures told { Tells result (λ u. reverse (map (λ n. n.text) names.now)) (walk.names_checked names.now []) }
 {
+    let mut seen = NameSet::new(alloc);
     for k in 0..names.len() {
         let name = &names[k];
-        let repeated = is_named(name.text.as_bytes(), names.split_at(k).0);
+        let repeated = seen.contains(name.text.as_bytes());
         check_name(alloc, name, repeated)?;
+        seen.insert(alloc, name.text.as_bytes())?;
     }
     Ok(())
 }
@@ -60,16 +68,4 @@ fn check_name(alloc: Global, name: &Ident, repeated: bool) -> Result<(), Stop<Re
     } else {
         Ok(())
     }
-}
-
-// Whether a name stands among others.
-fn is_named(name: &[u8], names: &[Ident]) -> bool
-    ensures { result ≡ is_listed name.now (map (λ n. n.text) names.now) }
-{
-    for other in names {
-        if other.text.as_bytes() == name {
-            return true;
-        }
-    }
-    false
 }

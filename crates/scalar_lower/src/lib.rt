@@ -8,6 +8,7 @@ mod file;
 mod file_tests;
 mod headers;
 mod lower;
+mod name_set;
 mod names;
 mod operand;
 mod scope;

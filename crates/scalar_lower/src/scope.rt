@@ -1,6 +1,6 @@
 //! What stays the same while a function is walked, and the refusals of its nodes.
 
-ghost use Rattle.std.specs.Prelude.{◌≡◌, map, decimal, take, drop, None, Some};
+ghost use Rattle.std.specs.Prelude.{◌≡◌, decimal, take, drop, None, Some};
 ghost use Rattle.std.specs.Fmt.{signed_decimal};
 ghost use Rattle.fic_base.specs.declared.code.Code.TheVariants as code;
 ghost use Rattle.mat_token.specs.Lexeme.{lexemes_of};
@@ -8,8 +8,8 @@ ghost use Rattle.scalar_lower.specs.Names as names;
 ghost use Rattle.scalar_lower.specs.Shown;
 ghost use Rattle.scalar_lower.specs.View.{scope_view, IsStop};
 
+use crate::name_set::NameSet;
 use fic_base::{Code, Place, Refusal, Text};
-use mat_ast::Func;
 use mat_token::{Kind, Token};
 use num_type::Stop;
 use std::alloc::Global;
@@ -18,9 +18,9 @@ use std::alloc::Global;
 #[derive(Clone, Copy)]
 pub struct Scope<'a> {
     /// The names that are variables throughout the function.
-    pub variables: &'a [Text],
-    /// The functions of the file.
-    pub funcs: &'a [Func],
+    pub variables: &'a NameSet,
+    /// The names of the file's functions.
+    pub functions: &'a NameSet,
     /// The source.
     pub bytes: &'a [u8],
     /// The source's tokens.
@@ -31,38 +31,14 @@ pub struct Scope<'a> {
 pub fn is_variable(scope: &Scope<'_>, name: &[u8]) -> bool
     ensures { result ≡ names.is_listed name.now (scope_view scope.now).variables }
 {
-    is_listed(name, scope.variables)
-}
-
-/// Whether a name is one of these.
-pub fn is_listed(name: &[u8], listed: &[Text]) -> bool
-    ensures { result ≡ names.is_listed name.now listed.now }
-{
-    for other in listed {
-        if other.as_bytes() == name {
-            return true;
-        }
-    }
-    false
+    scope.variables.contains(name)
 }
 
 /// Whether a name is that of a function of the file.
 pub fn is_function(scope: &Scope<'_>, name: &[u8]) -> bool
     ensures { result ≡ names.is_listed name.now (scope_view scope.now).functions }
 {
-    is_among_functions(name, scope.funcs)
-}
-
-/// Whether a name is that of one of these functions.
-pub fn is_among_functions(name: &[u8], funcs: &[Func]) -> bool
-    ensures { result ≡ names.is_listed name.now (map (λ f. f.name.text) funcs.now) }
-{
-    for f in funcs {
-        if f.name.text.as_bytes() == name {
-            return true;
-        }
-    }
-    false
+    scope.functions.contains(name)
 }
 
 // Whether tokens of a kind have a text.

@@ -1,10 +1,11 @@
 //! Functions of two inputs, lowered.
 
+use crate::name_set::NameSet;
 use crate::{Scope, lower_function};
 use c_tree::{CKind, CTree};
 use fic_base::{Code, Place, Refusal, Text};
 use mat_ast::{BinOp, Expr, Func, Ident, Stmt, assign, binary, name};
-use num_type::{NumType, Stop};
+use num_type::{Memory, NumType, Stop};
 use sqlite_items::Items;
 use std::alloc::{AllocError, Global};
 use std::test::Fail;
@@ -80,19 +81,12 @@ pub fn func(alloc: Global, value: Expr) -> Result<Func, AllocError> {
     })
 }
 
-/// One more variable.
-fn push_text(alloc: Global, names: &mut Vec<Text>, text: &[u8]) -> Result<(), AllocError> {
-    let name = Text::from_bytes(alloc, text)?;
-    names.push(name)?;
-    Ok(())
-}
-
 /// The variables `a`, `b` and `y`.
-fn variables(alloc: Global) -> Result<Vec<Text>, AllocError> {
-    let mut names = Vec::new(alloc);
-    push_text(alloc, &mut names, b"a")?;
-    push_text(alloc, &mut names, b"b")?;
-    push_text(alloc, &mut names, b"y")?;
+fn variables(alloc: Global) -> Result<NameSet, Memory> {
+    let mut names = NameSet::new(alloc);
+    names.insert(alloc, b"a")?;
+    names.insert(alloc, b"b")?;
+    names.insert(alloc, b"y")?;
     Ok(names)
 }
 
@@ -101,9 +95,10 @@ fn program(alloc: Global, op: BinOp, last: &[u8], num: NumType) -> Result<CTree,
     let value = value(alloc, op, last)?;
     let f = func(alloc, value)?;
     let variables = variables(alloc)?;
+    let functions = NameSet::new(alloc);
     let scope = Scope {
-        variables: variables.as_slice(),
-        funcs: &[],
+        variables: &variables,
+        functions: &functions,
         bytes: b"",
         tokens: &[],
     };
