@@ -1,0 +1,4 @@
+pub mod Cases
+pub mod Plain
+pub mod View
+pub mod Reads
