@@ -1,0 +1,16 @@
+mod Apart
+mod ApartProgram
+mod TypedParts
+mod Known
+mod Tied
+mod OneWord
+mod TiedProgram
+mod OneProgram
+mod Alike
+mod Inverted
+mod Complete
+mod Front
+mod Good
+mod Reached
+mod Decided
+mod SpelledWords

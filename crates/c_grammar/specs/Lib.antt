@@ -1,0 +1,6 @@
+pub mod Equal
+pub mod Live
+pub mod Machine
+pub mod Sentence
+pub mod Spelled
+pub mod Words
