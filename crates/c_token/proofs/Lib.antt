@@ -1,0 +1,12 @@
+pub mod Fronts
+pub mod Beginnings
+pub mod Once
+pub mod Lengths
+pub mod Scanning
+pub mod Marks
+pub mod SlotTexts
+pub mod Lines
+pub mod NameTests
+pub mod ElementTexts
+pub mod Reading
+pub mod Sides
