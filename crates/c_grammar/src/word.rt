@@ -17,13 +17,21 @@ pub enum CMacro {
 /// A keyword that is no type (6.4.1).
 #[derive(Clone, Copy, Debug, PartialEq, Eq)]
 pub enum CKeyword {
+    /// `const`
     Const,
+    /// `if`
     If,
+    /// `else`
     Else,
+    /// `for`
     For,
+    /// `while`
     While,
+    /// `break`
     Break,
+    /// `continue`
     Continue,
+    /// `return`
     Return,
 }
 
@@ -69,11 +77,15 @@ pub enum CWordToken {
     Counter(Counter),
     /// A parameter of the interface, or a local array `m0, m1, ..`.
     Array(CArray),
+    /// A macro for constants.
     Macro(CMacro),
+    /// A keyword that is no type.
     Keyword(CKeyword),
+    /// A relational or equality operator.
     Rel(CRel),
     /// An operator; `Sub` is unary minus too.
     Op(COp),
+    /// One of the other signs.
     Sign(CSign),
     /// A token that stands in no program of the interface.
     Other,

@@ -1,0 +1,9 @@
+pub mod View
+pub mod Signed
+pub mod Fit
+pub mod Over
+pub mod Shape
+pub mod Start
+pub mod Counters
+pub mod Ran
+pub mod Within
