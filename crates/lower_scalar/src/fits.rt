@@ -1,0 +1,219 @@
+//! A word in a variable, brought into the range of a type.
+
+ghost use Rattle.std.specs.Prelude.{◌≡◌, ◌≤◌, ◌<◌, ◌^◌, IfOk, true, false};
+ghost use Rattle.c_tree.specs.View.{expr_view};
+ghost use Rattle.lower_scalar.specs.Shapes;
+
+use crate::numbers::{ones, power, top};
+use crate::signs::{below_minus, bits_of, choose_less, constant, minus_one, resigned};
+use c_tree::{CExpr, COp, CWord};
+use num_type::{Memory, Overflow};
+use std::alloc::Global;
+
+/// The least number of a signedness and a word length in bits.
+pub fn least(alloc: Global, to: bool, word: u32) -> Result<CExpr, Memory>
+    requires some { 1 ≤ word }
+    requires most { word ≤ 64 }
+    ensures { IfOk result (λ r. expr_view r ≡ Shapes.least to word) }
+{
+    if to {
+        let r = below_minus(alloc, power(word - 1) - 1)?;
+        Ok(r)
+    } else {
+        Ok(c_tree::unsigned(0))
+    }
+}
+
+// A signed word brought into a signed range.
+fn saturate_signed(alloc: Global, word: u32, x: u32) -> Result<CExpr, Memory>
+    requires some { 1 ≤ word }
+    requires most { word ≤ 64 }
+    ensures { IfOk result (λ r. expr_view r ≡ Shapes.saturated true word true x) }
+{
+    let end = top(true, word);
+    let high = choose_less(
+        alloc,
+        c_tree::signed(end),
+        c_tree::variable(x),
+        c_tree::signed(end),
+        c_tree::variable(x),
+    )?;
+    let edge = least(alloc, true, word)?;
+    let low = least(alloc, true, word)?;
+    let r = choose_less(alloc, c_tree::variable(x), edge, low, high)?;
+    Ok(r)
+}
+
+// A signed word brought into an unsigned range.
+fn saturate_to_unsigned(alloc: Global, word: u32, x: u32) -> Result<CExpr, Memory>
+    requires some { 1 ≤ word }
+    requires most { word ≤ 64 }
+    ensures { IfOk result (λ r. expr_view r ≡ Shapes.saturated false word true x) }
+{
+    let end = top(false, word);
+    let tested = c_tree::cast(alloc, CWord::U64, c_tree::variable(x))?;
+    let taken = c_tree::cast(alloc, CWord::U64, c_tree::variable(x))?;
+    let high = choose_less(
+        alloc,
+        c_tree::unsigned(end),
+        tested,
+        c_tree::unsigned(end),
+        taken,
+    )?;
+    let r = choose_less(
+        alloc,
+        c_tree::variable(x),
+        c_tree::signed(0),
+        c_tree::unsigned(0),
+        high,
+    )?;
+    Ok(r)
+}
+
+// An unsigned word brought into a range.
+fn saturate_unsigned(alloc: Global, to: bool, word: u32, x: u32) -> Result<CExpr, Memory>
+    requires some { 1 ≤ word }
+    requires most { word ≤ 64 }
+    ensures { IfOk result (λ r. expr_view r ≡ Shapes.saturated to word false x) }
+{
+    let end = top(to, word);
+    let same = resigned(alloc, false, to, c_tree::variable(x))?;
+    let r = choose_less(
+        alloc,
+        c_tree::unsigned(end),
+        c_tree::variable(x),
+        constant(to, end),
+        same,
+    )?;
+    Ok(r)
+}
+
+/// The number of a range that is nearest to the word of signedness `signed` in `x`.
+pub fn saturate(alloc: Global, to: bool, word: u32, signed: bool, x: u32) -> Result<CExpr, Memory>
+    requires some { 1 ≤ word }
+    requires most { word ≤ 64 }
+    ensures { IfOk result (λ r. expr_view r ≡ Shapes.saturated to word signed x) }
+{
+    if !signed {
+        let r = saturate_unsigned(alloc, to, word, x)?;
+        Ok(r)
+    } else if to {
+        let r = saturate_signed(alloc, word, x)?;
+        Ok(r)
+    } else {
+        let r = saturate_to_unsigned(alloc, word, x)?;
+        Ok(r)
+    }
+}
+
+/// Where the bits of a word come from: a variable of this signedness, times `2^by`.
+#[derive(Clone, Copy)]
+pub struct Source {
+    pub signed: bool,
+    pub x: u32,
+    pub by: u32,
+}
+
+// The bits, modulo `2^64`.
+fn source_bits(alloc: Global, source: Source) -> Result<CExpr, Memory>
+    requires { source.by < 64 }
+    ensures { IfOk result (λ r. expr_view r ≡ Shapes.shifted_bits source.signed source.x source.by) }
+{
+    let bits = bits_of(alloc, source.signed, c_tree::variable(source.x))?;
+    if source.by == 0 {
+        Ok(bits)
+    } else {
+        let r = c_tree::binary(alloc, COp::Mul, bits, c_tree::unsigned(power(source.by)))?;
+        Ok(r)
+    }
+}
+
+// The low bits of the source.
+fn cut(alloc: Global, word: u32, source: Source) -> Result<CExpr, Memory>
+    requires some { 1 ≤ word }
+    requires most { word ≤ 64 }
+    requires near { source.by < 64 }
+    ensures { IfOk result (λ r. expr_view r ≡ Shapes.cut word (Shapes.shifted_bits source.signed source.x source.by)) }
+{
+    let bits = source_bits(alloc, source)?;
+    let r = c_tree::binary(alloc, COp::And, bits, c_tree::unsigned(ones(word)))?;
+    Ok(r)
+}
+
+// The low bits of the source as a negative number.
+fn cut_below(alloc: Global, word: u32, source: Source) -> Result<CExpr, Memory>
+    requires some { 1 ≤ word }
+    requires most { word ≤ 64 }
+    requires near { source.by < 64 }
+    ensures { IfOk result (λ r. expr_view r ≡ Shapes.cut_below word (Shapes.shifted_bits source.signed source.x source.by)) }
+{
+    let high = cut(alloc, word, source)?;
+    let turned = c_tree::binary(alloc, COp::Sub, c_tree::unsigned(ones(word)), high)?;
+    let size = c_tree::cast(alloc, CWord::I64, turned)?;
+    let minus = minus_one(alloc)?;
+    let r = c_tree::binary(alloc, COp::Sub, minus, size)?;
+    Ok(r)
+}
+
+// The number of a signed range that the low bits of the source stand for.
+fn wrap_signed(alloc: Global, word: u32, source: Source) -> Result<CExpr, Memory>
+    requires some { 1 ≤ word }
+    requires most { word ≤ 64 }
+    requires near { source.by < 64 }
+    ensures { IfOk result (λ r. expr_view r ≡ Shapes.wrapped true word (Shapes.shifted_bits source.signed source.x source.by)) }
+{
+    let low = cut(alloc, word, source)?;
+    let same = c_tree::cast(alloc, CWord::I64, low)?;
+    let below = cut_below(alloc, word, source)?;
+    let tested = cut(alloc, word, source)?;
+    let r = choose_less(
+        alloc,
+        tested,
+        c_tree::unsigned(power(word - 1)),
+        same,
+        below,
+    )?;
+    Ok(r)
+}
+
+/// The number of a range that differs from the source by a multiple of `2^word`.
+pub fn wrap(alloc: Global, to: bool, word: u32, source: Source) -> Result<CExpr, Memory>
+    requires some { 1 ≤ word }
+    requires most { word ≤ 64 }
+    requires near { source.by < 64 }
+    ensures { IfOk result (λ r. expr_view r ≡ Shapes.wrapped to word (Shapes.shifted_bits source.signed source.x source.by)) }
+{
+    if to {
+        let r = wrap_signed(alloc, word, source)?;
+        Ok(r)
+    } else {
+        let r = cut(alloc, word, source)?;
+        Ok(r)
+    }
+}
+
+/// The word of signedness `signed` in `x`, brought into a range by the action.
+#[tactic(auto, unfolding(crate::specs::Shapes::fitted))]
+pub fn fit(
+    alloc: Global,
+    action: Overflow,
+    to: bool,
+    word: u32,
+    signed: bool,
+    x: u32,
+) -> Result<CExpr, Memory>
+    requires some { 1 ≤ word }
+    requires most { word ≤ 64 }
+    ensures { IfOk result (λ r. expr_view r ≡ Shapes.fitted action to word signed x) }
+{
+    match action {
+        Overflow::Saturate => {
+            let r = saturate(alloc, to, word, signed, x)?;
+            Ok(r)
+        }
+        Overflow::Wrap => {
+            let r = wrap(alloc, to, word, Source { signed, x, by: 0 })?;
+            Ok(r)
+        }
+    }
+}
