@@ -11,7 +11,7 @@ use Rattle.c_tree.specs.declared.array_names.Arrays.{Arrays}
 use Rattle.c_tree.specs.Names.{array_at, word_of, is_const}
 use Rattle.c_tree.specs.Tree.{Exp, Signed, Unsigned, Var, Count, Element, Cast, Truth, Neg, Binary, Choose, Test, Compare, Sta, Set, Store, If, IfElse, For, While, Break, Continue, Return, Block, Done, Next}
 use Rattle.c_tree.specs.WellFormed.{Scope, type_of_exp, is_test, is_one_type, is_declared, has_type, is_fit, are_fit}
-use Rattle.c_grammar.proofs.TypedParts.{given_part, negated_part, cast_part, element_parts, same_parts, operator_parts, choose_parts}
+use Rattle.c_tree.proofs.Typed.{given_part, negated_part, cast_part, element_parts, same_parts, operator_parts, choose_parts}
 use Rattle.c_grammar.specs.declared.word.CSign.TheVariants as sign
 use Rattle.c_grammar.specs.declared.word.CWordToken.{CWordToken}
 use Rattle.c_grammar.specs.declared.word.CWordToken.TheVariants as word

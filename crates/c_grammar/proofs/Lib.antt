@@ -1,6 +1,5 @@
 mod Apart
 mod ApartProgram
-mod TypedParts
 mod Known
 mod Tied
 mod OneWord

@@ -16,10 +16,10 @@ use Rattle.c_grammar.specs.Words.{parameters_of}
 use Rattle.c_grammar.specs.Machine.{Past, State, Fixed, Whole, Stuck, owe, made, step, steps, start, state, finish}
 use Rattle.c_parse.specs.declared.bad.BadWord.{BadWord}
 use Rattle.c_parse.specs.Refused.{RefusesOnly}
-use Rattle.c_parse.specs.declared.pending.Reading.{Reading}
-use Rattle.c_parse.specs.declared.pending.Reading.TheVariants as reading
-use Rattle.c_parse.specs.declared.pending.Reader.{Reader}
-use Rattle.c_parse.specs.View.{reading_view, reader_view}
+use Rattle.c_parts.specs.declared.pending.Reading.{Reading}
+use Rattle.c_parts.specs.declared.pending.Reading.TheVariants as reading
+use Rattle.c_parts.specs.declared.pending.Reader.{Reader}
+use Rattle.c_parts.specs.View.{reading_view, reader_view}
 
 -- what the machine finds, as the laws of the grammar say it
 abbrev pub Finds : Type 0

@@ -3,14 +3,14 @@
 ghost use Rattle.std.specs.Prelude.{◌≡◌, IfOk, Some, drop, slice_get, suc};
 ghost use Rattle.c_grammar.specs.Machine.{Stuck, owe, step, when};
 ghost use Rattle.c_grammar.specs.Equal.{same_word};
-ghost use Rattle.c_parse.specs.View.{reading_view, reader_view, Goes};
+ghost use Rattle.c_parts.specs.View.{reading_view, reader_view, Goes};
 
-use crate::behind::have;
-use crate::operand::{digits, need};
-use crate::paren::{casting, opened};
-use crate::pending::{Past, Reader, Reading};
-use crate::statement::{declare, status, within};
 use c_grammar::{CWordToken, same_word};
+use c_moves::behind::have;
+use c_moves::operand::{digits, need};
+use c_moves::paren::{casting, opened};
+use c_moves::statement::{declare, status, within};
+use c_parts::pending::{Past, Reader, Reading};
 use c_tree::Arrays;
 use num_type::Memory;
 use sqlite_items::Items;
@@ -24,7 +24,7 @@ fn refuse_behind(past: Past) -> Option<Reader>
 }
 
 /// What comes at a word that nothing has to come before; none if no program goes on so. Want of memory is the only refusal.
-#[tactic(auto, unfolding(crate::specs::View::reading_view))]
+#[tactic(auto, unfolding(c_parts::specs::View::reading_view))]
 fn advance(
     alloc: Global,
     arrays: &Arrays,
@@ -64,7 +64,7 @@ fn expected(words: &[CWordToken], at: usize) -> Option<CWordToken>
 }
 
 /// What comes at a word where one has to come.
-#[tactic(auto, unfolding(crate::specs::View::reader_view))]
+#[tactic(auto, unfolding(c_parts::specs::View::reader_view))]
 fn compared(
     words: Items<CWordToken>,
     at: usize,
@@ -87,7 +87,7 @@ fn compared(
 }
 
 /// What comes at one more word; none if no program goes on so. Want of memory is the only refusal.
-#[tactic(auto, unfolding(crate::specs::View::reader_view))]
+#[tactic(auto, unfolding(c_parts::specs::View::reader_view))]
 pub fn step(
     alloc: Global,
     arrays: &Arrays,

@@ -5,8 +5,8 @@ ghost use Rattle.c_grammar.specs.Sentence.{array_words, input_words, output_word
 ghost use Rattle.c_grammar.specs.declared.word.CSign.TheVariants as sign;
 ghost use Rattle.c_grammar.specs.declared.word.CWordToken.TheVariants as word;
 
-use crate::stack::two;
 use c_grammar::{CKeyword, CSign, CWordToken};
+use c_parts::stack::two;
 use c_tree::{Array, Arrays, CArray};
 use num_type::{Container, Memory};
 use sqlite_items::Items;

@@ -10,21 +10,21 @@ ghost use Rattle.c_grammar.specs.Machine as machine;
 ghost use Rattle.c_grammar.specs.Machine.{Stuck, finish, made, start, state, step};
 ghost use Rattle.c_grammar.specs.Words.{parameters_of};
 ghost use Rattle.c_parse.specs.Refused.{RefusesOnly};
-ghost use Rattle.c_parse.specs.View.{past_view, reading_view, reader_view, Goes};
+ghost use Rattle.c_parts.specs.View.{past_view, reading_view, reader_view, Goes};
 
 use crate::advance::step;
 use crate::bad::BadWord;
 use crate::header::header;
-use crate::pending::{Past, Reader, Reading};
-use crate::stack::behind;
 use c_grammar::{CWordToken, machine_decides};
+use c_parts::pending::{Past, Reader, Reading};
+use c_parts::stack::behind;
 use c_tree::{Arrays, CProgram, CTree, Interface};
 use num_type::{Memory, Stop};
 use sqlite_items::Items;
 use std::alloc::Global;
 
 /// The state before the first word. Want of memory is the only refusal.
-#[tactic(auto, unfolding(crate::specs::View::reading_view))]
+#[tactic(auto, unfolding(c_parts::specs::View::reading_view))]
 fn begun(alloc: Global, arrays: &Arrays) -> Result<Reader, Memory>
     ensures { (i : Signature) → arrays.now ≡ parameters_of i → IfOk result (λ r. reader_view r ≡ start i) }
 {
@@ -77,7 +77,7 @@ fn refuse_reading(reading: Reading) -> Option<Past>
 }
 
 /// Behind the closing brace of the function what was read; None elsewhere.
-#[tactic(auto, unfolding(crate::specs::View::reading_view))]
+#[tactic(auto, unfolding(c_parts::specs::View::reading_view))]
 fn whole_reading(reading: Reading) -> Option<Past>
     ensures { MatchOption result ((v : machine.Past) → reading_view reading ≡ machine.Whole v → ⊥) (λ past. reading_view reading ≡ machine.Whole (past_view past)) }
 {
@@ -88,7 +88,7 @@ fn whole_reading(reading: Reading) -> Option<Past>
 }
 
 /// Behind the closing brace of the function what was read; None elsewhere.
-#[tactic(auto, unfolding(crate::specs::View::reader_view))]
+#[tactic(auto, unfolding(c_parts::specs::View::reader_view))]
 fn whole(reader: Reader) -> Option<Past>
     ensures { MatchOption result ((v : machine.Past) → reader_view reader ≡ machine.Whole v → ⊥) (λ past. reader_view reader ≡ machine.Whole (past_view past)) }
 {
@@ -196,7 +196,7 @@ fn failed(tree: CTree, stop: Stop<BadWord>) -> Stop<BadWord>
 }
 
 /// The program of what was read.
-#[tactic(auto, unfolding(crate::specs::View::past_view))]
+#[tactic(auto, unfolding(c_parts::specs::View::past_view))]
 fn program(alloc: Global, interface: Interface, past: Past) -> CProgram
     requires { IsWellFormed (made (interface_view interface) (past_view past)) }
     ensures { program_of result ≡ made (interface_view interface) (past_view past) }

@@ -1,1 +1,4 @@
 pub mod Fronts
+mod Places
+mod Behind
+mod Once

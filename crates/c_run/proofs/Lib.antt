@@ -4,5 +4,4 @@ pub mod Turns
 pub mod Limits
 pub mod Lists
 pub mod Endings
-pub mod Typed
 pub mod Fills

@@ -6,7 +6,7 @@ use Rattle.c_tree.specs.declared.tree.CWord.TheVariants.{I64}
 use Rattle.c_tree.specs.Tree.{Exp, Signed, Unsigned, Var, Count, Element, Cast, Truth, Neg, Binary, Choose, Test, Compare, Sta, Set, Store, If, IfElse, For, While, Break, Continue, Return, Block, Done, Next, Program}
 use Rattle.c_tree.specs.Names.{array_at, is_const}
 use Rattle.c_tree.specs.WellFormed.{Scope, scope_of, is_declared, is_one_type, type_of_exp, is_test, has_type, is_fit, are_fit, IsWellFormed}
-use Rattle.c_run.proofs.Typed.{given_part, negated_part, cast_part, element_parts, same_parts, operator_parts, choose_parts}
+use Rattle.c_tree.proofs.Typed.{given_part, negated_part, cast_part, element_parts, same_parts, operator_parts, choose_parts}
 use Rattle.c_run.specs.Over.{over, test_over, sta_over, block_over}
 
 and_parts : (a b : Bool) → (a && b) ≡ true → (a ≡ true) × (b ≡ true)

@@ -57,25 +57,35 @@ fn count_test(t: &CTest, sum: u64) -> Option<u64>
     sum.checked_add(1)
 }
 
+// So many more and the tokens of an assignment to a variable.
+fn count_set(value: &CExpr, sum: u64) -> Option<u64>
+    ensures { IfSome result (λ n. n ≡ sum + (3 + tokens (expr_view value.now))) }
+{
+    let sum = count_expr(value, sum)?;
+    sum.checked_add(3)
+}
+
+// So many more and the tokens of a store.
+fn count_store(at: &CExpr, value: &CExpr, sum: u64) -> Option<u64>
+    ensures { IfSome result (λ n. n ≡ sum + (8 + tokens (expr_view at.now) + tokens (expr_view value.now))) }
+{
+    let sum = count_expr(at, sum)?;
+    let sum = count_expr(value, sum)?;
+    sum.checked_add(8)
+}
+
 // So many more and the tokens of a statement.
 #[cycle(count_stmt)]
 fn count_stmt(s: &CStmt, sum: u64) -> Option<u64>
     ensures { IfSome result (λ n. n ≡ sum + sta_tokens (stmt_view s.now)) }
 {
     match s {
-        CStmt::Set { var: _, value } => {
-            let sum = count_expr(value, sum)?;
-            sum.checked_add(3)
-        }
+        CStmt::Set { var: _, value } => count_set(value, sum),
         CStmt::Store {
             array: _,
             at,
             value,
-        } => {
-            let sum = count_expr(at, sum)?;
-            let sum = count_expr(value, sum)?;
-            sum.checked_add(8)
-        }
+        } => count_store(at, value, sum),
         CStmt::If { test, body, other } => {
             let sum = count_test(test, sum)?;
             let sum = count_block(body.as_slice(), sum)?;

@@ -72,6 +72,7 @@ impl<'a> Machine<'a> {
     pub fn run(&mut self, inputs: &[Vec<Int>], turns: u64) -> Ran
         requires { AreInputs (arrays_of (program_in self.old)).inputs (map vec_items inputs.now) }
         ensures program { program_in self.new ≡ program_in self.old }
+        ensures count { length (outputs_in self.new) ≡ length (arrays_of (program_in self.old)).outputs }
         ensures ran { IsRan (Run.run (program_in self.old) (map vec_items inputs.now) (zero_lists (arrays_of (program_in self.old)).outputs) turns) result (outputs_in self.new) }
     {
         let tree = self.program.tree();

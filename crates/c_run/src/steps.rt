@@ -2,7 +2,7 @@
 
 ghost use Rattle.std.specs.Prelude.{◌≡◌, ◌<◌, ◌^◌, ◌+◌};
 ghost use Rattle.c_tree.specs.View.{expr_view, test_view, stmt_view, block_view};
-ghost use Rattle.c_tree.specs.Tree.{Store};
+ghost use Rattle.c_tree.specs.Tree.{Set, Store};
 ghost use Rattle.c_tree.specs.Tokens.{tokens, test_tokens, sta_tokens, block_tokens};
 ghost use Rattle.c_tree.specs.Meaning;
 ghost use Rattle.c_tree.specs.Outcome.{Gives, PastBound, bind, choose};
@@ -28,10 +28,7 @@ pub fn step(s: &CStmt, frame: &mut Frame, bound: u64, at: u64) -> Flow
     ensures shaped { shape_of frame.new ≡ shape_of frame.old }
 {
     match s {
-        CStmt::Set { var, value } => match value_of(value, frame, at + 2) {
-            Err(token) => Flow::Undefined(token),
-            Ok(word) => frame.assign(at, *var, word),
-        },
+        CStmt::Set { var, value } => assign(frame, *var, value, at),
         CStmt::Store {
             array,
             at: place,
@@ -39,15 +36,11 @@ pub fn step(s: &CStmt, frame: &mut Frame, bound: u64, at: u64) -> Flow
         } => store(frame, *array, place, value, at),
         CStmt::If { test, body, other } => match holds(test, frame, at + 2) {
             Err(token) => Flow::Undefined(token),
-            Ok(true) => {
-                let first = at + 4 + c_tree::test_tokens(test);
-                block(body.as_slice(), frame, bound, first)
-            }
+            Ok(true) => block(body.as_slice(), frame, bound, then_first(test, at)),
             Ok(false) => match other {
                 None => Flow::Went,
                 Some(other) => {
-                    let size = c_tree::block_tokens(body.as_slice());
-                    let first = at + 7 + c_tree::test_tokens(test) + size;
+                    let first = else_first(test, body.as_slice(), at);
                     block(other.as_slice(), frame, bound, first)
                 }
             },
@@ -64,6 +57,36 @@ pub fn step(s: &CStmt, frame: &mut Frame, bound: u64, at: u64) -> Flow
         CStmt::Break => Flow::Broke,
         CStmt::Continue => Flow::Continued,
         CStmt::Return(status) => Flow::Returned(Status::of(*status)),
+    }
+}
+
+// The number of the first token of an `if`'s body.
+fn then_first(test: &CTest, at: u64) -> u64
+    requires { at + 4 + test_tokens (test_view test.now) < 2 ^ 64 }
+    ensures { result ≡ at + 4 + test_tokens (test_view test.now) }
+{
+    at + 4 + c_tree::test_tokens(test)
+}
+
+// The number of the first token of what stands behind an `else`.
+fn else_first(test: &CTest, body: &[CStmt], at: u64) -> u64
+    requires { at + 7 + test_tokens (test_view test.now) + block_tokens (block_view body.now) < 2 ^ 64 }
+    ensures { result ≡ at + 7 + test_tokens (test_view test.now) + block_tokens (block_view body.now) }
+{
+    at + 7 + c_tree::test_tokens(test) + c_tree::block_tokens(body)
+}
+
+// A variable takes a value.
+#[tactic(auto, unfolding(c_tree::specs::Outcome::bind))]
+fn assign(frame: &mut Frame, var: u32, value: &CExpr, at: u64) -> Flow
+    requires counted { at + sta_tokens (Set var (expr_view value.now)) < 2 ^ 64 }
+    requires within { sta_over (Set var (expr_view value.now)) ≡ 0 }
+    ensures told { flow_told result frame.new ≡ run_sta (Set var (expr_view value.now)) 0 frame.old at }
+    ensures shaped { shape_of frame.new ≡ shape_of frame.old }
+{
+    match value_of(value, frame, at + 2) {
+        Err(token) => Flow::Undefined(token),
+        Ok(word) => frame.assign(at, var, word),
     }
 }
 

@@ -6,7 +6,6 @@ pub mod Scanning
 pub mod Marks
 pub mod SlotTexts
 pub mod Lines
-pub mod NameTests
 pub mod ElementTexts
 pub mod Reading
 pub mod Sides

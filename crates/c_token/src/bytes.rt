@@ -5,32 +5,13 @@ ghost use Rattle.std.specs.List.{prefix_len};
 ghost use Rattle.fic_base.specs.Names.{is_letter, is_digit, is_name_byte};
 ghost use Rattle.c_tree.specs.CText.{is_blank};
 
-/// Whether a byte is a letter.
-pub(crate) fn is_letter(b: u8) -> bool
-    ensures { result ≡ is_letter b }
-{
-    (65 <= b && b <= 90) || (97 <= b && b <= 122)
-}
-
-/// Whether a byte is a decimal digit.
-pub(crate) fn is_digit(b: u8) -> bool
-    ensures { result ≡ is_digit b }
-{
-    48 <= b && b <= 57
-}
+use fic_base::{is_digit, is_letter, is_name_byte};
 
 /// Whether a word may begin with a byte: a letter or `_`.
 pub(crate) fn begins_word(b: u8) -> bool
     ensures { result ≡ (is_letter b || b == 95) }
 {
     is_letter(b) || b == b'_'
-}
-
-/// Whether a byte may stand in a word: a letter, a digit or `_`.
-pub(crate) fn is_name_byte(b: u8) -> bool
-    ensures { result ≡ is_name_byte b }
-{
-    is_letter(b) || is_digit(b) || b == b'_'
 }
 
 /// Whether a byte is a blank: a space, a tab or a newline.

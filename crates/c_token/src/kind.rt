@@ -1,14 +1,11 @@
 //! What the elements of a slot are, and their shape.
 
 ghost use Rattle.std.specs.Prelude.{◌≡◌};
-ghost use Rattle.shape_rules.specs.Pieces.{ReadsU32};
-ghost use Rattle.shape_rules.specs.Declarations.{ReadsShape};
 ghost use Rattle.c_token.specs.Line.{ReadsFixed, ReadsKind};
 
-use crate::text::{has_front, split};
+use crate::text::has_front;
 use c_tree::CKind;
-use num_type::read_digits;
-use shape_rules::{Shape, read_type};
+use shape_rules::{Shape, read_shape, read_type, split};
 
 /// What the elements of a slot are, and its shape.
 #[derive(Clone, Copy)]
@@ -17,38 +14,6 @@ pub struct Elements {
     pub kind: CKind,
     /// The rows and columns.
     pub shape: Shape,
-}
-
-// The number of a canonical decimal below 2^32. None exactly where the bytes are none.
-fn read_u32(bytes: &[u8]) -> Option<u32>
-    ensures { ReadsU32 result bytes.now }
-{
-    match read_digits(bytes) {
-        None => None,
-        Some(n) => {
-            if n <= u32::MAX as u128 {
-                Some(n as u32)
-            } else {
-                None
-            }
-        }
-    }
-}
-
-// The shape of a text such as 1x4. None exactly where the text is that of no shape.
-fn read_shape(bytes: &[u8]) -> Option<Shape>
-    ensures { ReadsShape result bytes.now }
-{
-    match split(bytes, b'x') {
-        None => None,
-        Some((rows, cols)) => match read_u32(rows) {
-            None => None,
-            Some(rows) => match read_u32(cols) {
-                None => None,
-                Some(cols) => Shape::make(rows, cols),
-            },
-        },
-    }
 }
 
 // Stored integers of a type, with their shape: a text such as s8.4:1x1:c. None exactly where the text is none of these.

@@ -5,7 +5,8 @@ ghost use Rattle.std.specs.List.{list_any};
 ghost use Rattle.c_tree.specs.CText.{is_sign};
 ghost use Rattle.c_token.specs.Scan.{IsLength, begins_name_byte};
 
-use crate::bytes::{begins_word, digits, is_digit, name_bytes};
+use crate::bytes::{begins_word, digits, name_bytes};
+use fic_base::is_digit;
 
 /// The operators, brackets, commas, colons and semicolons (6.4.6).
 static SIGNS: [&str; 25] = [

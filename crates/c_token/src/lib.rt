@@ -6,7 +6,6 @@ mod kind;
 mod laws;
 mod length;
 mod line;
-mod name;
 mod scan;
 mod slot;
 mod slots;

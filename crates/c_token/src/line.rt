@@ -7,13 +7,13 @@ ghost use Rattle.c_tree.specs.View.{slot_view};
 ghost use Rattle.c_tree.specs.WellFormed.{IsSlot};
 ghost use Rattle.c_token.specs.Line.{TestsFront, ReadsInterface, ReadsSides, ReadsOutputs};
 
-use crate::name::is_name;
 use crate::slot::names_differ;
 use crate::slots::read_slots;
-use crate::text::{has_front, split};
+use crate::text::has_front;
 use c_tree::{CSlot, Interface};
-use fic_base::Text;
+use fic_base::{Text, is_name};
 use num_type::Memory;
+use shape_rules::split;
 use sqlite_items::Items;
 use std::alloc::Global;
 

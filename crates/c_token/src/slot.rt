@@ -7,11 +7,10 @@ ghost use Rattle.c_tree.specs.WellFormed.{AreNamedApart};
 ghost use Rattle.c_token.specs.Line.{ReadsSlot, ReadsNext, differ};
 
 use crate::kind::{Elements, read_kind};
-use crate::name::is_name;
-use crate::text::split;
 use c_tree::CSlot;
-use fic_base::Text;
+use fic_base::{Text, is_name};
 use num_type::Memory;
+use shape_rules::split;
 use sqlite_items::Items;
 use std::alloc::Global;
 

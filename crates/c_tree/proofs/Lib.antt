@@ -1,10 +1,11 @@
 mod Containers
 mod Count
+mod Deepest
 mod Within
 mod Lexing
 mod Declared
-mod Typed
+pub mod Typed
 mod Laid
 mod LaidProgram
 mod Loops
-mod Example
+pub mod Example

@@ -1,6 +1,7 @@
 pub mod CText
 pub mod Counted
 pub mod Depth
+pub mod Depths
 pub mod Example
 pub mod Interface
 pub mod Layout

@@ -5,6 +5,8 @@ ghost use Rattle.c_tree.specs.Example.{example, example_text};
 ghost use Rattle.c_tree.specs.Tree.{Program};
 ghost use Rattle.c_tree.specs.Tokens.{body_token, program_tokens};
 ghost use Rattle.c_tree.specs.Spelling.{spelled};
+ghost use Rattle.c_tree.specs.Depth.{depth};
+ghost use Rattle.c_tree.specs.Depths.{depths, greatest};
 ghost use Rattle.c_tree.specs.Run.{run, Ended, Undefined};
 ghost use Rattle.c_tree.specs.Layout.{layout};
 ghost use Rattle.c_tree.specs.CText.{IsText};
@@ -13,6 +15,12 @@ ghost use Rattle.c_tree.specs.WellFormed.{IsWellFormed};
 /// A program has as many tokens as are counted.
 pub fn tokens_are_counted()
     ensures { (p : Program) → length (spelled p) ≡ program_tokens p }
+{}
+
+/// Each token of a program has a depth, and the greatest of them is the depth of the program, where it is well formed.
+pub fn depth_is_the_greatest()
+    ensures greatest { (p : Program) → IsWellFormed p → greatest (depths p) ≡ depth p }
+    ensures each { (p : Program) → length (depths p) ≡ length (spelled p) }
 {}
 
 /// What a run finds undefined stands at a token of the program, behind its declarations.

@@ -12,7 +12,10 @@ mod tree;
 
 pub use array_names::{Array, Arrays};
 pub use interface::{CKind, CSlot, Interface};
-pub use laws::{layout_is_a_text, tokens_are_counted, undefined_at_a_token, worked_program};
+pub use laws::{
+    depth_is_the_greatest, layout_is_a_text, tokens_are_counted, undefined_at_a_token,
+    worked_program,
+};
 pub use make::{
     binary, cast, choice, compare, counted, element, for_each, give_back, go_on, if_else, if_only,
     leave, negation, set, signed, store, truth, unsigned, variable, while_holds,

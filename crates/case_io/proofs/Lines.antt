@@ -1,8 +1,8 @@
 -- Lines of canonical decimals.
-use Rattle.std.proofs.Common.{arith, ◌≡◌, ℕ, ◌<◌, ◌≤◌, ◌+◌, true, false, List, [], ◌∷◌, ◌++◌, length, Bor, Option, Some, None, refl, sym, ap, ◌∙◌, subst, append_assoc, append-nil, IsTrue, All}
-use Rattle.std.specs.Prelude.{flat_map, codes, map}
+use Rattle.std.proofs.Common.{arith, ◌≡◌, ℕ, ◌<◌, false, List, [], ◌∷◌, ◌++◌, length, refl, sym, ap, ◌∙◌, subst, append_assoc, append-nil, IsTrue, All}
+use Rattle.std.specs.Prelude.{codes}
 use Rattle.std.proofs.lemmas.List.Elements.{All-head, All-tail}
-use Rattle.shape_rules.specs.Pieces.{Lacks, Splits}
+use Rattle.shape_rules.specs.Pieces.{Lacks}
 use Rattle.shape_rules.proofs.Splits.{same_split, no_mark}
 use Rattle.case_io.specs.Plain.{is_canonical, lines_of, AreLines}
 use Rattle.case_io.proofs.Texts.{canonical_lacks, none_is}

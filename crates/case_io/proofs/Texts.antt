@@ -1,5 +1,5 @@
 -- Canonical decimals.
-use Rattle.std.proofs.Common.{inl, inr, ◌⊎◌, zero, suc, arith, length, get_or, ◌≡◌, ◌≢◌, ℕ, ◌<◌, Bool, true, false, not, ◌&&◌, List, [], ◌∷◌, refl, sym, ap, ◌∙◌, subst, nat_eq, IsTrue}
+use Rattle.std.proofs.Common.{inl, inr, ◌⊎◌, zero, suc, arith, length, get_or, ◌≡◌, ◌≢◌, ℕ, ◌<◌, Bool, true, false, not, ◌&&◌, List, [], ◌∷◌, refl, sym, ap, ◌∙◌, subst, nat_eq}
 use Rattle.std.specs.Prelude.{if◌then◌else◌, ℤ, pos, negsuc, neg_ℤ, unsigned_abs, ◌^◌, nat_le}
 use Rattle.std.specs.Fmt.{decimal, signed_decimal}
 use Rattle.std.specs.Char.{digit_value}
@@ -14,7 +14,7 @@ use Rattle.std.specs.List.{list_all}
 use Rattle.fic_base.specs.Names.{is_digit}
 use Rattle.shape_rules.specs.Pieces.{Lacks}
 use Rattle.std.proofs.lemmas.Int.{ints}
-use Rattle.std.specs.Prelude.{◌≤ℤ◌, Option, None}
+use Rattle.std.specs.Prelude.{◌≤ℤ◌, None}
 use Rattle.num_type.specs.Decimals.{ReadsDecimal}
 use Rattle.case_io.specs.Cases.{Range, IsWithin}
 use Rattle.case_io.specs.Plain.{is_digits, is_positive, is_canonical, value_of}

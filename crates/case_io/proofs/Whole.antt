@@ -1,10 +1,10 @@
 -- What a reader of a whole case answers.
-use Rattle.std.proofs.Common.{◌≡◌, ℕ, false, true, List, length, map, refl, sym, ap, ◌∙◌, subst, nat_eq, Bor, None, Some}
-use Rattle.std.specs.Prelude.{ℤ, flat_map}
+use Rattle.std.proofs.Common.{◌≡◌, ℕ, false, true, List, length, map, sym, ap, ◌∙◌, nat_eq, None, Some}
+use Rattle.std.specs.Prelude.{ℤ}
 use Rattle.std.specs.Global.{Vec}
 use Rattle.std.proofs.lemmas.Bool.Decides.{eqb_tells}
 use Rattle.std.proofs.Common.{inl, inr, ◌⊎◌, ◌≢◌}
-use Rattle.case_io.specs.Cases.{Range, elements, AreInputs}
+use Rattle.case_io.specs.Cases.{Range, elements}
 use Rattle.case_io.specs.Plain.{AreLines, HasForm, IsCase, HasNoForm, HasBadValue, value_of}
 use Rattle.case_io.specs.Reads.{ReadsArrays, lists_of}
 use Rattle.case_io.proofs.Lines.{one_list}

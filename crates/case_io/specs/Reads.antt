@@ -1,8 +1,7 @@
 -- What parts of the reader answer.
-use Rattle.std.specs.Prelude.{◌≡◌, ℕ, ℤ, suc, if◌then◌else◌, nat_eq, List, [], ◌∷◌, ◌++◌, map, flat_map, All, IsTrue, Option, Some, None, Result, Ok, Err}
+use Rattle.std.specs.Prelude.{◌≡◌, ℕ, ℤ, List, [], ◌∷◌, map, flat_map, All, Option, Some, None, Result, Ok, Err}
 use Rattle.std.specs.Borrow.{Bor}
 use Rattle.std.specs.Global.{Vec}
-use Rattle.shape_rules.specs.Pieces.{Lacks}
 use Rattle.num_type.specs.declared.memory.Stop.{Stop}
 use Rattle.num_type.specs.declared.memory.Stop.TheVariants as stop
 use Rattle.case_io.specs.declared.refusal.Cases.{Cases}

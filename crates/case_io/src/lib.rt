@@ -2,13 +2,22 @@
 #![tactic(auto)]
 
 mod decimal_text;
+mod json_text;
 mod line;
+#[cfg(test)]
+mod line_tests;
+mod member;
+mod outputs;
 mod plain;
 mod range;
 mod ranges;
 mod refusal;
+mod result;
+mod result_line;
 #[cfg(test)]
 mod tests;
 
 pub use plain::read_cases;
 pub use refusal::{CaseBad, CaseRefusal, Cases};
+pub use result::CaseResult;
+pub use result_line::line_of;

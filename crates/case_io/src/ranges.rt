@@ -30,8 +30,8 @@ fn kind_range(kind: CKind, count: u32) -> Range
     }
 }
 
-// Whether elements of a kind have two parts.
-fn is_complex(kind: CKind) -> bool
+/// Whether elements of a kind have two parts.
+pub fn is_complex(kind: CKind) -> bool
     ensures { result ≡ is_complex (kind_view kind) }
 {
     match kind {
@@ -87,20 +87,9 @@ pub fn is_count(count: usize, ranges: &[Range]) -> bool
     left == 0
 }
 
-// Whether a number is at most another one.
-fn at_most(a: Int, b: Int) -> bool
-    ensures { IsTrue result ↔ (a ≤ℤ b) }
-{
-    if a.is_negative() {
-        !b.is_negative() || b.magnitude() <= a.magnitude()
-    } else {
-        !b.is_negative() && a.magnitude() <= b.magnitude()
-    }
-}
-
 /// Whether a number is in range.
 pub fn is_within(range: &Range, z: Int) -> bool
     ensures { IsTrue result ↔ IsWithin (range_view range.now) z }
 {
-    at_most(range.least, z) && at_most(z, range.most)
+    range.least.at_most(z) && z.at_most(range.most)
 }

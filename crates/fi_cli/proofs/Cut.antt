@@ -1,6 +1,7 @@
 -- A source of which only so many bytes are read.
-use Rattle.std.proofs.Common.{inl, inr, ◌⊎◌, ◌≡◌, ℕ, ◌<◌, ◌≤◌, List, [], ◌∷◌, length, take, zero, suc, refl, ap, subst, arith}
+use Rattle.std.proofs.Common.{inl, inr, ◌⊎◌, ◌≡◌, ◌≢◌, ℕ, ◌<◌, ◌≤◌, List, [], ◌∷◌, length, take, zero, suc, refl, ap, subst, arith}
 use Rattle.std.proofs.lemmas.Bool.{cases_lt}
+use Rattle.std.proofs.lemmas.List.{length-take-le}
 use Rattle.fic_base.specs.declared.refusal.Refusal.{Refusal}
 use Rattle.shape_rules.specs.declared.declared.Declared.{Declared}
 use Rattle.mat_token.specs.declared.token.Token.{Token}
@@ -58,3 +59,11 @@ cut_refusal source entry ds r h = by (cases_lt 1048576 (length (take 1048577 sou
     by (inl more) (inl p) =
         inl (too_long_parse source r (omega (arith, more, taken_less 1048577 source)) (subst (λ o. IsBehind (take 1048577 source) o (Refused r)) (p.is.long more) p.gives))
     by (inl more) (inr w) = absurd (no_tokens w.tokens (w.are.long more))
+
+-- bytes of which fewer are read than may be are read whole
+pub read_all : (n : ℕ) (bytes : List ℕ) → length (take n bytes) ≢ n → take n bytes ≡ bytes
+read_all n bytes h = by (cases_lt n (length bytes))
+  where
+    by : (n < length bytes) ⊎ (length bytes ≤ n) → take n bytes ≡ bytes
+    by (inl more) = absurd (h (length-take-le n bytes (omega (arith, more))))
+    by (inr few) = take_all n bytes few

@@ -1,6 +1,6 @@
-pub mod NameTests
 pub mod TypeWords
 pub mod FormTests
+pub mod RunWords
 pub mod Puts
 pub mod Tells
 pub mod Cut

@@ -20,15 +20,17 @@ use Rattle.mat_parse.specs.Parsed.{Tree, Refused, IsBehind, IsParseOf, IsParse}
 use Rattle.mat_grammar.proofs.HeaderNames.{header_names}
 use Rattle.fi_eval.specs.Meaning.{function_named}
 use Rattle.c_tree.specs.Tree.{Fixed, Program}
+use Rattle.c_tree.specs.CText.{IsText}
 use Rattle.c_tree.specs.Layout.{layout}
-use Rattle.scalar_lower.specs.Told as told
-use Rattle.scalar_lower.specs.Told.{Told}
-use Rattle.scalar_lower.specs.Shown.{text_at}
-use Rattle.scalar_lower.specs.Walk.{walked, entry_walked}
-use Rattle.scalar_lower.specs.Lowered.{real_slots}
-use Rattle.scalar_lower.specs.Correspondence.{IsProgramOf}
-use Rattle.scalar_lower.specs.Right.{HasNames}
-use Rattle.scalar_lower.specs.View.{TellsTypes}
+use Rattle.c_tree.specs.WellFormed.{IsWellFormed}
+use Rattle.scalar_walk.specs.Told as told
+use Rattle.scalar_walk.specs.Told.{Told}
+use Rattle.scalar_walk.specs.Shown.{text_at}
+use Rattle.scalar_walk.specs.Walk.{walked, entry_walked}
+use Rattle.scalar_walk.specs.Lowered.{real_slots}
+use Rattle.scalar_walk.specs.Correspondence.{IsProgramOf}
+use Rattle.scalar_walk.specs.Right.{HasNames}
+use Rattle.scalar_walk.specs.View.{TellsTypes}
 use Rattle.fi_cli.specs.Source.{num_types, declared_slots, IsRefusal, IsCompiled}
 use Rattle.fi_cli.specs.View.{AreScalars, RefusesAt}
 
@@ -78,10 +80,12 @@ pub compiled : (source entry : List ℕ) (ds : List Declared) (text : List ℕ) 
     → AreScalars ds → IsOutcome source (Gives tokens) → AreTokensOf source tokens → IsParse source (Tree fs)
     → walked (text_at (lexemes_of source tokens)) fs entry (num_types ds) ≡ told.Passes types
     → ((f : Fun) → function_named fs entry ≡ Some f → HasNames f → IsProgramOf fs entry (real_slots f.inputs (num_types ds)) p)
-    → text ≡ layout p → IsCompiled source entry ds text
-compiled source entry ds text tokens fs types p scalars o kept tree told right is =
+    → text ≡ layout p → ((q : Program) → IsWellFormed q → IsText q (layout q)) → ((q r : Program) (bytes : List ℕ) → IsWellFormed q → IsWellFormed r → IsText q bytes → IsText r bytes → q ≡ r)
+    → IsCompiled source entry ds text
+compiled source entry ds text tokens fs types p scalars o kept tree told right is laid one =
     let whole = token_tree source tokens fs o tree in
     let at = entry_of (text_at (lexemes_of source tokens)) fs entry (num_types ds) types told in
+    let good = right at.0 at.1 (has_names source tokens fs entry at.0 kept whole at.1) in
     record {
       file = fs;
       tree = tree;
@@ -91,7 +95,8 @@ compiled source entry ds text tokens fs types p scalars o kept tree told right i
       accepted = record { tokens = tokens; are = o; file = fs; tree = whole; tells = told };
       program = p;
       is_text = is;
-      is_program = subst (λ slots. IsProgramOf fs entry slots p) (slots_are at.0.inputs ds scalars) (right at.0 at.1 (has_names source tokens fs entry at.0 kept whole at.1));
+      only = λ q formed t. one q p text formed good.well_formed t (subst (IsText p) (sym is) (laid p good.well_formed));
+      is_program = subst (λ slots. IsProgramOf fs entry slots p) (slots_are at.0.inputs ds scalars) good;
     }
 
 -- refusals of the layers are refusals of the source

@@ -5,8 +5,9 @@ use Rattle.shape_rules.specs.declared.declared.Declared.{Declared}
 use Rattle.fic_io.specs.declared.sink.Failed.{Failed}
 use Rattle.fic_io.specs.Causes.{Told, appended}
 use Rattle.fi_cli.specs.Gains.{GainsPart}
-use Rattle.fi_cli.specs.Forms.{IsCompile}
-use Rattle.fi_cli.specs.Causes.{ShelfSide, SinkSide, Cause, SourceRefused, Unread, Wanting, Formless, status_of, line_of, StandsAt, Stands, IsAsked, GainsOrFails, Says}
+use Rattle.fi_cli.specs.Forms.{Command, Compile, IsForm}
+use Rattle.fi_cli.specs.Commands.{Bad, BadSource}
+use Rattle.fi_cli.specs.Causes.{ShelfSide, SinkSide, Cause, Refused, Unread, Wanting, Formless, status_of, line_of, StandsAt, Stands, IsAsked, GainsOrFails, Says}
 use Rattle.num_type.specs.declared.memory.Stop.{Stop}
 use Rattle.num_type.specs.declared.memory.Stop.TheVariants as stop
 use Rattle.fic_base.specs.declared.refusal.Refusal.{Refusal}
@@ -29,7 +30,7 @@ line_put result cause words shelf out err stands same (inr p) =
 line_put result cause words shelf out err stands same (inl p) = subst (λ (n : ℕ). Says n words shelf out err) (sym p.0) (by cause stands p.1)
   where
     by : (c : Cause) → Stands c words shelf → err.new ≡ appended err.old (line_of c) → Says (status_of c) words shelf out err
-    by (SourceRefused r) s g = record { cause = SourceRefused r; stands = s; is_status = refl; gained = g; unchanged = same }
+    by (Refused bad) s g = record { cause = Refused bad; stands = s; is_status = refl; gained = g; unchanged = same }
     by (Unread name) s g = record { cause = Unread name; stands = s; is_status = refl; gained = g; unchanged = same }
     by Wanting s g = record { cause = Wanting; stands = s; is_status = refl; gained = g; unchanged = same }
     by (Formless n) s g = record { cause = Formless n; stands = s; is_status = refl; gained = g; unchanged = same }
@@ -45,14 +46,14 @@ text_told result text words shelf out err asked (inr p) =
     subst (λ (n : ℕ). Says n words shelf out err) (sym p.0) (inl (record { text = text; asked = asked; part = p.1; told = p.2 }))
 
 -- a refusal of what was read stands, where it is one of the source
-pub refused_stands : (stop : Stop Refusal) (cause : Cause) (read file entry : List ℕ) (ds : List Declared) (shelf : ShelfSide) → StopIs cause SourceRefused stop → RefusesAt stop (IsRefusal read entry ds)
-    → ((r : Refusal) → IsRefusal read entry ds r → Told (shelf.told file) (λ source. IsRefusal source entry ds r)) → StandsAt cause file entry ds shelf
-refused_stands (stop.Refused r) cause read file entry ds shelf is h f = subst (λ c. StandsAt c file entry ds shelf) (sym is) (f r h)
-refused_stands stop.Memory cause read file entry ds shelf is h f = subst (λ c. StandsAt c file entry ds shelf) (sym is) tt
+pub refused_stands : (stop : Stop Refusal) (cause : Cause) (read file entry : List ℕ) (ds : List Declared) (shelf : ShelfSide) → StopIs cause (λ r. Refused (BadSource r)) stop → RefusesAt stop (IsRefusal read entry ds)
+    → ((r : Refusal) → IsRefusal read entry ds r → Told (shelf.told file) (λ source. IsRefusal source entry ds r)) → StandsAt cause (Compile file entry ds) shelf
+refused_stands (stop.Refused r) cause read file entry ds shelf is h f = subst (λ c. StandsAt c (Compile file entry ds) shelf) (sym is) (f r h)
+refused_stands stop.Memory cause read file entry ds shelf is h f = subst (λ c. StandsAt c (Compile file entry ds) shelf) (sym is) tt
 
 -- what stands at the form of the words stands
-pub stands_at_form : (cause : Cause) (words : List (List ℕ)) (file entry : List ℕ) (ds : List Declared) (shelf : ShelfSide) → IsCompile file entry ds words → StandsAt cause file entry ds shelf → Stands cause words shelf
-stands_at_form (SourceRefused r) words file entry ds shelf form h = record { file = file; entry = entry; types = ds; form = form; holds = h }
-stands_at_form (Unread name) words file entry ds shelf form h = record { file = file; entry = entry; types = ds; form = form; holds = h }
-stands_at_form Wanting words file entry ds shelf form h = tt
-stands_at_form (Formless n) words file entry ds shelf form h = absurd h
+pub stands_at_form : (cause : Cause) (words : List (List ℕ)) (c : Command) (shelf : ShelfSide) → IsForm c words → StandsAt cause c shelf → Stands cause words shelf
+stands_at_form (Refused bad) words c shelf form h = record { command = c; form = form; holds = h }
+stands_at_form (Unread name) words c shelf form h = record { command = c; form = form; holds = h }
+stands_at_form Wanting words c shelf form h = tt
+stands_at_form (Formless n) words c shelf form h = absurd h

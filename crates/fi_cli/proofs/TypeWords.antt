@@ -12,8 +12,8 @@ use Rattle.shape_rules.specs.Pieces.{Lacks}
 use Rattle.shape_rules.specs.Declarations.{IsTypeText, IsScalar}
 use Rattle.shape_rules.proofs.Splits.{same_split, no_mark}
 use Rattle.shape_rules.proofs.Texts.{shape_parts, shape_is, few_rows, few_columns, decimal_lacks, same_decimal, type_lacks, shape_lacks, declared_is}
-use Rattle.fi_cli.specs.Forms.{IsTypeWord, AreTypeWords}
-use Rattle.fi_cli.specs.View.{AreScalars}
+use Rattle.fi_cli.specs.Forms.{Command, Compile, Run, IsTypeWord, AreTypeWords, IsForm}
+use Rattle.fi_cli.specs.View.{AreScalars, HasScalars}
 
 shape_of : Shape → List ℕ
 shape_of s = shape_text (rows_of s) (columns_of s)
@@ -108,3 +108,8 @@ are_scalars [] [] h = tt
 are_scalars [] (d ∷ ds) h = absurd h
 are_scalars (w ∷ words) [] h = absurd h
 are_scalars (w ∷ words) (d ∷ ds) h = (h.0.one, h.0.real, are_scalars words ds h.1)
+
+-- the types of a form's words are those of real scalars
+pub has_scalars : (c : Command) (words : List (List ℕ)) → IsForm c words → HasScalars c
+has_scalars (Compile file entry ds) words h = are_scalars h.types ds h.are_types
+has_scalars (Run file cases turns) words h = tt

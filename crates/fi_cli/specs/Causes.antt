@@ -1,11 +1,9 @@
 -- What each status of a call says.
 use Rattle.std.specs.Prelude.{◌≡◌, ◌⊎◌, ℕ, zero, suc, List, Option}
-use Rattle.fic_base.specs.declared.refusal.Refusal.{Refusal}
-use Rattle.shape_rules.specs.declared.declared.Declared.{Declared}
-use Rattle.fic_io.specs.Causes.{Told, Rose, appended}
-use Rattle.fi_cli.specs.Forms.{IsCompile, IsBadAt}
-use Rattle.fi_cli.specs.Source.{IsCompiled, IsRefusal}
-use Rattle.fi_cli.specs.Lines.{refusal_line, read_line, word_line, memory_line, write_line}
+use Rattle.fic_io.specs.Causes.{Rose, appended}
+use Rattle.fi_cli.specs.Forms.{Command, IsForm, IsBadAt}
+use Rattle.fi_cli.specs.Commands.{Bad, BadSource, BadText, BadCases, files, IsRefusedBy, Gives, AllTold, IsOneOf}
+use Rattle.fi_cli.specs.Lines.{refusal_line, text_line, case_line, read_line, word_line, memory_line, write_line}
 use Rattle.fi_cli.specs.Gains.{GainsPart}
 
 -- what a shelf tells and how it failed
@@ -24,11 +22,11 @@ pub record SinkSide : Type 0 where
   pub before : ℕ
   pub now : ℕ
 
--- why a call writes no program
+-- why a call writes nothing
 pub data Cause : Type 0 where
-  -- the source is refused
-  SourceRefused : Refusal → Cause
-  -- the source under this name could not be read
+  -- what was read is refused
+  Refused : Bad → Cause
+  -- the file of this name could not be read
   Unread : List ℕ → Cause
   -- memory is wanting
   Wanting : Cause
@@ -36,43 +34,50 @@ pub data Cause : Type 0 where
   Formless : ℕ → Cause
 
 abbrev pub status_of : Cause → ℕ
-status_of (SourceRefused r) = 1
+status_of (Refused bad) = 1
 status_of (Unread name) = 2
 status_of Wanting = 4
 status_of (Formless n) = 5
 
+abbrev pub bad_line : Bad → List ℕ
+bad_line (BadSource r) = refusal_line r
+bad_line (BadText r) = text_line r
+bad_line (BadCases r) = case_line r
+
 abbrev pub line_of : Cause → List ℕ
-line_of (SourceRefused r) = refusal_line r
+line_of (Refused bad) = bad_line bad
 line_of (Unread name) = read_line name
 line_of Wanting = memory_line
 line_of (Formless n) = word_line n
 
--- the cause stands at words of this form
-abbrev pub StandsAt : Cause → List ℕ → List ℕ → List Declared → ShelfSide → Type 0
-StandsAt (SourceRefused r) file entry ds shelf = Told (shelf.told file) (λ source. IsRefusal source entry ds r)
-StandsAt (Unread name) file entry ds shelf = (name ≡ file) × (shelf.last ≡ file) × Rose shelf.before shelf.now
-StandsAt Wanting file entry ds shelf = Unit {0}
-StandsAt (Formless n) file entry ds shelf = ⊥
+-- the cause stands at this command
+abbrev pub StandsAt : Cause → Command → ShelfSide → Type 0
+StandsAt (Refused bad) c shelf = AllTold shelf.told (files c) (IsRefusedBy bad c)
+StandsAt (Unread name) c shelf = IsOneOf name (files c) × (shelf.last ≡ name) × Rose shelf.before shelf.now
+StandsAt Wanting c shelf = Unit {0}
+StandsAt (Formless n) c shelf = ⊥
 
--- the words ask for this of a source
-pub record AsksFor (words : List (List ℕ)) (P : List ℕ → List ℕ → List Declared → Type 0) : Type 0 where
-  pub file : List ℕ
-  pub entry : List ℕ
-  pub types : List Declared
-  pub form : IsCompile file entry types words
-  pub holds : P file entry types
+-- the words ask for a command of which this holds
+pub record AsksFor (words : List (List ℕ)) (P : Command → Type 0) : Type 0 where
+  pub command : Command
+  pub form : IsForm command words
+  pub holds : P command
 
 -- the cause stands
 abbrev pub Stands : Cause → List (List ℕ) → ShelfSide → Type 0
 Stands (Formless n) words shelf = IsBadAt words n
 Stands Wanting words shelf = Unit {0}
-Stands cause words shelf = AsksFor words (λ file entry ds. StandsAt cause file entry ds shelf)
+Stands cause words shelf = AsksFor words (λ c. StandsAt cause c shelf)
 
--- a text that the words ask for
+-- what a command gives, by what the shelf tells
+abbrev pub Yields : Command → ShelfSide → List ℕ → Type 0
+Yields c shelf bytes = AllTold shelf.told (files c) (λ contents. Gives c contents bytes)
+
+-- bytes that the words ask for
 abbrev pub IsAsked : List (List ℕ) → ShelfSide → List ℕ → Type 0
-IsAsked words shelf text = AsksFor words (λ file entry ds. Told (shelf.told file) (λ source. IsCompiled source entry ds text))
+IsAsked words shelf bytes = AsksFor words (λ c. Yields c shelf bytes)
 
--- the output gained such a text, and the error stream nothing
+-- the output gained such bytes, and the error stream nothing
 pub record IsDone (words : List (List ℕ)) (shelf : ShelfSide) (out err : SinkSide) : Type 0 where
   pub text : List ℕ
   pub asked : IsAsked words shelf text
@@ -91,7 +96,7 @@ pub record IsTold (status : ℕ) (words : List (List ℕ)) (shelf : ShelfSide) (
 abbrev pub GainsOrFails : SinkSide → List ℕ → Type 0
 GainsOrFails s bytes = (s.new ≡ appended s.old bytes) ⊎ GainsPart s.before s.now s.old s.new bytes
 
--- the output failed in a text that the words ask for
+-- the output failed in bytes that the words ask for
 pub record OutFailed (words : List (List ℕ)) (shelf : ShelfSide) (out err : SinkSide) : Type 0 where
   pub text : List ℕ
   pub asked : IsAsked words shelf text

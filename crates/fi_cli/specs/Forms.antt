@@ -1,5 +1,5 @@
 -- The words of a call.
-use Rattle.std.specs.Prelude.{◌≡◌, ◌≢◌, ℕ, ◌+◌, ◌<◌, ◌≤◌, false, List, [], ◌∷◌, ◌++◌, length, take, codes, slice_get, Option, Some, None}
+use Rattle.std.specs.Prelude.{◌≡◌, ◌≢◌, ℕ, ◌+◌, ◌<◌, ◌≤◌, false, List, [], ◌∷◌, ◌++◌, length, take, codes, decimal, slice_get, Option, Some, None}
 use Rattle.fic_base.specs.Names.{IsName}
 use Rattle.shape_rules.specs.declared.declared.Declared.{Declared}
 use Rattle.shape_rules.specs.Declarations.{IsTypeText, IsScalar}
@@ -8,6 +8,8 @@ use Rattle.shape_rules.specs.Declarations.{IsTypeText, IsScalar}
 pub data Command : Type 0 where
   -- the program of an entry: the name of the source, the entry, and the declared types of its inputs
   Compile : List ℕ → List ℕ → List Declared → Command
+  -- the results of a program: the names of the C text and of the cases, and the bound on loop turns
+  Run : List ℕ → List ℕ → ℕ → Command
 
 -- the word of a type; one real element so far
 pub record IsTypeWord (word : List ℕ) (d : Declared) : Type 0 where
@@ -28,9 +30,23 @@ pub record IsCompile (file entry : List ℕ) (ds : List Declared) (words : List 
   pub an_entry : IsName entry
   pub are_types : AreTypeWords types ds
 
+-- the word of a bound on loop turns: a decimal without a sign or a leading zero, at most 1,000,000
+pub record IsTurnsWord (word : List ℕ) (turns : ℕ) : Type 0 where
+  pub text : word ≡ decimal turns
+  pub most : turns ≤ 1000000
+
+-- run CFILE CASES TURNS
+pub record IsRun (file cases : List ℕ) (turns : ℕ) (words : List (List ℕ)) : Type 0 where
+  pub bound : List ℕ
+  pub are : words ≡ codes "run" ∷ file ∷ cases ∷ bound ∷ []
+  pub a_file : file ≢ []
+  pub a_case_file : cases ≢ []
+  pub a_bound : IsTurnsWord bound turns
+
 -- the words have this form
 abbrev pub IsForm : Command → List (List ℕ) → Type 0
 IsForm (Compile file entry ds) words = IsCompile file entry ds words
+IsForm (Run file cases turns) words = IsRun file cases turns words
 
 -- some form goes on behind the words
 abbrev pub GoesOn : List (List ℕ) → Type 0
@@ -55,3 +71,8 @@ pub record IsNoTypeAt (words : List (List ℕ)) (n : ℕ) : Type 0 where
 abbrev pub ReadsWord : Option Declared → List ℕ → Type 0
 ReadsWord (Some d) word = IsTypeWord word d
 ReadsWord None word = (d : Declared) → IsTypeWord word d → ⊥
+
+-- what a reader of bounds answers
+abbrev pub ReadsTurns : Option ℕ → List ℕ → Type 0
+ReadsTurns (Some turns) word = IsTurnsWord word turns
+ReadsTurns None word = (turns : ℕ) → IsTurnsWord word turns → ⊥

@@ -3,5 +3,7 @@ pub mod View
 pub mod Gains
 pub mod Lines
 pub mod Source
+pub mod Results
+pub mod Commands
 pub mod Causes
 pub mod Answers

@@ -14,11 +14,13 @@ use Rattle.mat_token.specs.Outcome.{IsOutcome}
 use Rattle.mat_parse.specs.Parsed.{Tree, Refused, IsParseOf, IsParse}
 use Rattle.fi_eval.specs.Meaning.{function_named}
 use Rattle.c_tree.specs.Tree.{Fixed, Slot, Program}
+use Rattle.c_tree.specs.CText.{IsText}
 use Rattle.c_tree.specs.Layout.{layout}
-use Rattle.scalar_lower.specs.Told.{Told, Passes, Refuses}
-use Rattle.scalar_lower.specs.Shown.{text_at}
-use Rattle.scalar_lower.specs.Walk.{walked}
-use Rattle.scalar_lower.specs.Correspondence.{IsProgramOf}
+use Rattle.c_tree.specs.WellFormed.{IsWellFormed}
+use Rattle.scalar_walk.specs.Told.{Told, Passes, Refuses}
+use Rattle.scalar_walk.specs.Shown.{text_at}
+use Rattle.scalar_walk.specs.Walk.{walked}
+use Rattle.scalar_walk.specs.Correspondence.{IsProgramOf}
 
 -- the types of the elements
 abbrev pub num_types : List Declared → List NumericType
@@ -42,9 +44,9 @@ pub record IsWalk (source entry : List ℕ) (ds : List Declared) (told : Told (L
 abbrev pub IsRefusal : List ℕ → List ℕ → List Declared → Refusal → Type 0
 IsRefusal source entry ds r = IsParse source (Refused r) ⊎ IsWalk source entry ds (Refuses r.code r.place r.shown)
 
--- The text is the layout of a program of C. The program is well formed and at most 500 deep; its interface names the entry, the inputs
--- with their declared types and the outputs; and for every list of inputs of these types, every contents of the outputs at the call and
--- every bound on loop turns it does nothing undefined and what evaluation of the source gives.
+-- The text is the layout of exactly one program of C, and of no other program a text. The program is well formed and at most 500 deep; its
+-- interface names the entry, the inputs with their declared types and the outputs; and for every list of inputs of these types, every
+-- contents of the outputs at the call and every bound on loop turns it does nothing undefined and what evaluation of the source gives.
 pub record IsCompiled (source entry : List ℕ) (ds : List Declared) (text : List ℕ) : Type 0 where
   pub file : List Fun
   pub tree : IsParse source (Tree file)
@@ -54,4 +56,5 @@ pub record IsCompiled (source entry : List ℕ) (ds : List Declared) (text : Lis
   pub accepted : IsWalk source entry ds (Passes types)
   pub program : Program
   pub is_text : text ≡ layout program
+  pub only : (q : Program) → IsWellFormed q → IsText q text → q ≡ program
   pub is_program : IsProgramOf file entry (declared_slots function.inputs ds) program

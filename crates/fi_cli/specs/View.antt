@@ -1,16 +1,22 @@
 -- What answers of the code say.
 use Rattle.std.specs.Prelude.{◌≡◌, ◌⊎◌, ℕ, List, [], ◌∷◌, false}
-use Rattle.fic_io.specs.Causes.{appended}
+use Rattle.fic_io.specs.Causes.{Rose, appended}
 use Rattle.shape_rules.specs.declared.declared.Declared.{Declared}
 use Rattle.shape_rules.specs.Declarations.{IsScalar}
 use Rattle.fi_cli.specs.declared.call.Fault.{Fault}
 use Rattle.fi_cli.specs.declared.call.Fault.TheVariants as fault
 use Rattle.fi_cli.specs.Gains.{GainsPart}
 use Rattle.fi_cli.specs.Lines.{write_line}
-use Rattle.fi_cli.specs.Causes.{Cause, SourceRefused, Unread, Wanting, Formless, SinkSide, GainsOrFails, status_of, line_of}
+use Rattle.c_read.specs.Program.{IsRefusal}
+use Rattle.fi_cli.specs.declared.results.RunStop.{RunStop}
+use Rattle.fi_cli.specs.declared.results.RunStop.TheVariants as run
+use Rattle.fi_cli.specs.Commands.{BadSource, BadText, BadCases, AreRefused}
+use Rattle.fi_cli.specs.Causes.{Cause, Refused, Unread, Wanting, Formless, SinkSide, GainsOrFails, status_of, line_of}
+use Rattle.fi_cli.specs.declared.words.Command as code
+use Rattle.fi_cli.specs.declared.words.Command.TheVariants as command
 use Rattle.fi_cli.specs.declared.words.TypeWords.{TypeWords}
 use Rattle.fi_cli.specs.declared.words.TypeWords.TheVariants as words
-use Rattle.fi_cli.specs.Forms.{AreTypeWords, IsNoTypeAt}
+use Rattle.fi_cli.specs.Forms.{Command, Compile, Run, AreTypeWords, IsNoTypeAt}
 use Rattle.num_type.specs.declared.memory.Stop.{Stop}
 use Rattle.num_type.specs.declared.memory.Stop.TheVariants as stop
 
@@ -31,15 +37,45 @@ AreScalars (d ∷ ds) = IsScalar d.shape × (d.complex ≡ false) × AreScalars 
 
 -- the cause that a fault is
 abbrev pub cause_view : Fault → Cause
-cause_view (fault.Refused r) = SourceRefused r
+cause_view (fault.Source r) = Refused (BadSource r)
+cause_view (fault.Text r) = Refused (BadText r)
+cause_view (fault.Cases r) = Refused (BadCases r)
 cause_view (fault.Unread name) = Unread name.now
 cause_view fault.Memory = Wanting
 cause_view (fault.Formless n) = Formless n
+
+-- the command that the words of a call stand for
+abbrev pub command_view : code.Command → Command
+command_view (command.Compile c) = Compile c.file.now c.entry.now c.types.items
+command_view (command.Run r) = Run r.file.now r.cases.now r.turns
 
 -- a stop as a cause
 abbrev pub StopIs : {R : Type 0} → Cause → (R → Cause) → Stop R → Type 0
 StopIs cause refused (stop.Refused r) = cause ≡ refused r
 StopIs cause refused stop.Memory = cause ≡ Wanting
+
+-- why there are no results at a C text and cases
+abbrev pub StopsRun : RunStop → List ℕ → List ℕ → Type 0
+StopsRun (run.Text r) text cases = IsRefusal r.kind r.offset text
+StopsRun (run.Cases r) text cases = AreRefused r text cases
+StopsRun run.Memory text cases = Unit {0}
+
+-- the cause that such a stop is
+abbrev pub run_cause : RunStop → Cause
+run_cause (run.Text r) = Refused (BadText r)
+run_cause (run.Cases r) = Refused (BadCases r)
+run_cause run.Memory = Wanting
+
+-- the types of a command are those of real scalars
+abbrev pub HasScalars : Command → Type 0
+HasScalars (Compile file entry ds) = AreScalars ds
+HasScalars (Run file cases turns) = Unit {0}
+
+-- why a file isn't read: it failed, which was counted, or memory is wanting
+abbrev pub IsUnread : Cause → List ℕ → ℕ → ℕ → List ℕ → Type 0
+IsUnread (Unread name) file before now last = (name ≡ file) × (last ≡ file) × Rose before now
+IsUnread Wanting file before now last = Unit {0}
+IsUnread _ file before now last = ⊥
 
 -- the text was written, with the status 0, or the output failed, with the status 3
 abbrev pub Delivers : ℕ → List ℕ → SinkSide → SinkSide → Type 0

@@ -1,27 +1,33 @@
 //! The top call.
 
 ghost use Rattle.std.specs.Prelude.{◌≡◌, IfOk, IfErr, map, string_bytes};
-ghost use Rattle.fic_io.specs.Causes.{Told};
-ghost use Rattle.fi_cli.specs.Source.{IsCompiled};
 ghost use Rattle.fi_cli.specs.Answers.{Answers};
-ghost use Rattle.fi_cli.specs.Causes.{ShelfSide, SinkSide, SourceRefused, Formless, StandsAt, Stands, IsAsked, Says, status_of, line_of};
-ghost use Rattle.fi_cli.specs.View.{AreScalars, cause_view, StopIs, Delivers, PutsLine, TellsCause};
+ghost use Rattle.fi_cli.specs.Causes.{ShelfSide, SinkSide, Formless, Stands, IsAsked, Says, status_of, line_of};
+ghost use Rattle.fi_cli.specs.View.{cause_view, StopIs, Delivers, PutsLine, TellsCause};
 
-use crate::lines::{memory_line, read_line, refusal_line, word_line, write_line};
+use crate::command::obey;
+use crate::lines::{
+    case_line, memory_line, read_line, refusal_line, text_line, word_line, write_line,
+};
 use crate::put::put_all;
-use crate::source::compile_source;
-use crate::words::{Compile, read_words};
+use crate::words::read_words;
+use c_read::{CRefusal, one_answer};
+use case_io::CaseRefusal;
 use fic_base::Refusal;
-use fic_io::{Gate, Shelf, ShelfFault, Sink};
+use fic_io::{Gate, Shelf, Sink};
 use num_type::{Memory, Stop};
 use std::alloc::Global;
 
-/// Why a call writes no program.
+/// Why a call writes nothing.
 #[derive(Drop)]
 pub enum Fault<'a> {
     /// The source is refused.
-    Refused(Refusal),
-    /// The source under this name could not be read.
+    Source(Refusal),
+    /// The C text is refused.
+    Text(CRefusal),
+    /// The cases are refused.
+    Cases(CaseRefusal),
+    /// The file of this name could not be read.
     Unread(&'a str),
     /// Memory is wanting.
     Memory,
@@ -34,13 +40,18 @@ pub enum Fault<'a> {
 /// | Status | Comes | Line on `err` |
 /// |---|---|---|
 /// | 0 | the words were carried out and all bytes were written to `out` | none |
-/// | 1 | the source is refused | `LINE:COL CODE SHOWN` |
-/// | 2 | the source could not be read | `read NAME` |
+/// | 1 | the source, the C text or the cases are refused | `LINE:COL CODE SHOWN`, `byte OFFSET KIND`, `case INDEX KIND` |
+/// | 2 | a file could not be read | `read NAME` |
 /// | 3 | a sink failed | `write` if it was `out` |
 /// | 4 | memory is wanting | `memory` |
 /// | 5 | the words have no form | `word N` |
 ///
-/// After the statuses 1, 2, 4 and 5 `out` is as before; after 3 it gained a part of the text from its front.
+/// | Words | Written to `out` |
+/// |---|---|
+/// | `compile FILE ENTRY TYPE ..` | the text of the entry's program in C |
+/// | `run CFILE CASES TURNS` | a line for each case: what the program of the C text comes to |
+///
+/// After the statuses 1, 2, 4 and 5 `out` is as before; after 3 it gained a part of the bytes from their front.
 pub fn top<S: Shelf, O: Sink, E: Sink, G: Gate>(
     alloc: Global,
     words: &[String],
@@ -58,6 +69,7 @@ pub fn top<S: Shelf, O: Sink, E: Sink, G: Gate>(
         (record { old = O.taken out.old; new = O.taken out.new; before = O.faults out.old; now = O.faults out.new })
         (record { old = E.taken err.old; new = E.taken err.new; before = E.faults err.old; now = E.faults err.new }) }
 {
+    one_answer();
     let answered = serve(alloc, words, shelf, out, err);
     answered
 }
@@ -81,7 +93,7 @@ fn serve<S: Shelf, O: Sink, E: Sink>(
     }
 }
 
-// The text that the words ask for.
+// The bytes that the words ask for.
 fn carry_out<'a, S: Shelf>(
     alloc: Global,
     words: &'a [String],
@@ -93,7 +105,7 @@ fn carry_out<'a, S: Shelf>(
         (record { told = S.told shelf.old; before = S.faults shelf.old; now = S.faults shelf.new; last = S.last shelf.new })) }
 {
     match read_words(alloc, words) {
-        Ok(command) => compile(alloc, command, shelf),
+        Ok(command) => obey(alloc, command, shelf),
         Err(stop) => Err(formless(stop)),
     }
 }
@@ -105,44 +117,6 @@ fn formless<'a>(stop: Stop<usize>) -> Fault<'a>
     match stop {
         Stop::Refused(at) => Fault::Formless(at),
         Stop::Memory => Fault::Memory,
-    }
-}
-
-// Why the source has no program.
-fn refused<'a>(stop: Stop<Refusal>) -> Fault<'a>
-    ensures { StopIs (cause_view result) SourceRefused stop }
-{
-    match stop {
-        Stop::Refused(refusal) => Fault::Refused(refusal),
-        Stop::Memory => Fault::Memory,
-    }
-}
-
-// The text of the program of a command.
-fn compile<'a, S: Shelf>(
-    alloc: Global,
-    command: Compile<'a>,
-    shelf: &mut S,
-) -> Result<Vec<u8>, Fault<'a>>
-    requires { AreScalars command.types.items }
-    ensures text { IfOk result (λ text. Told (S.told shelf.old command.entry.file.now) (λ source. IsCompiled source command.entry.entry.now command.entry.types.items text.items)) }
-    ensures cause { IfErr result (λ fault. StandsAt (cause_view fault) command.entry.file.now command.entry.entry.now command.entry.types.items
-        (record { told = S.told shelf.old; before = S.faults shelf.old; now = S.faults shelf.new; last = S.last shelf.new })) }
-{
-    let mut source = Vec::new(alloc);
-    match shelf.read(command.file, 1_048_577, &mut source) {
-        Ok(()) => {}
-        Err(ShelfFault::Memory) => return Err(Fault::Memory),
-        Err(ShelfFault::Failed) => return Err(Fault::Unread(command.file)),
-    }
-    match compile_source(
-        alloc,
-        source.as_slice(),
-        command.entry,
-        command.types.as_slice(),
-    ) {
-        Ok(text) => Ok(text),
-        Err(stop) => Err(refused(stop)),
     }
 }
 
@@ -166,7 +140,9 @@ fn line_of(alloc: Global, fault: &Fault<'_>) -> Result<Vec<u8>, Memory>
     ensures { IfOk result (λ line. line.items ≡ line_of (cause_view fault.now)) }
 {
     match fault {
-        Fault::Refused(refusal) => refusal_line(alloc, refusal),
+        Fault::Source(refusal) => refusal_line(alloc, refusal),
+        Fault::Text(refusal) => text_line(alloc, *refusal),
+        Fault::Cases(refusal) => case_line(alloc, *refusal),
         Fault::Unread(name) => read_line(alloc, name),
         Fault::Memory => Ok(Vec::from_slice(alloc, memory_line())?),
         Fault::Formless(at) => word_line(alloc, *at),
@@ -178,7 +154,7 @@ fn status_of(fault: &Fault<'_>) -> u8
     ensures { result ≡ status_of (cause_view fault.now) }
 {
     match fault {
-        Fault::Refused(_) => 1,
+        Fault::Source(_) | Fault::Text(_) | Fault::Cases(_) => 1,
         Fault::Unread(_) => 2,
         Fault::Memory => 4,
         Fault::Formless(_) => 5,

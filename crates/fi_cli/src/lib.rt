@@ -2,11 +2,14 @@
 #![tactic(auto)]
 
 mod call;
+mod command;
 #[cfg(test)]
 mod hostile_tests;
 mod lines;
-mod names;
 mod put;
+mod results;
+#[cfg(test)]
+mod run_tests;
 mod source;
 #[cfg(test)]
 mod tests;

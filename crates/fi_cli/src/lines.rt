@@ -1,8 +1,10 @@
 //! The lines on the error stream.
 
 ghost use Rattle.std.specs.Prelude.{◌≡◌, IfOk};
-ghost use Rattle.fi_cli.specs.Lines.{code_text, refusal_line, read_line, word_line, memory_line, write_line};
+ghost use Rattle.fi_cli.specs.Lines.{code_text, refusal_line, text_kind, text_line, case_kind, case_index, case_line, read_line, word_line, memory_line, write_line};
 
+use c_read::{CBad, CRefusal};
+use case_io::{CaseBad, CaseRefusal};
 use fic_base::{Code, Refusal};
 use num_type::Memory;
 use std::alloc::Global;
@@ -67,6 +69,71 @@ pub fn refusal_line(alloc: Global, refusal: &Refusal) -> Result<Vec<u8>, Memory>
     line.extend_from_slice(code_text(refusal.code).as_bytes())?;
     line.extend_from_slice(b" ")?;
     line.extend_from_slice(refusal.shown.as_bytes())?;
+    line.extend_from_slice(b"\n")?;
+    Ok(line)
+}
+
+// What of a C text is refused.
+#[tactic(auto, unfolding(crate::specs::Lines::text_kind))]
+fn text_kind(kind: CBad) -> &'static str
+    ensures { result.now ≡ text_kind kind }
+{
+    match kind {
+        CBad::Include => "Include",
+        CBad::Interface => "Interface",
+        CBad::Token => "Token",
+        CBad::Limit => "Limit",
+    }
+}
+
+/// The line about a refused C text: its offset in bytes from 0, and what is refused. Want of memory is the only refusal.
+#[tactic(auto, unfolding(crate::specs::Lines::text_line))]
+pub fn text_line(alloc: Global, refusal: CRefusal) -> Result<Vec<u8>, Memory>
+    ensures { IfOk result (λ line. line.items ≡ text_line refusal) }
+{
+    let mut line = Vec::new(alloc);
+    line.extend_from_slice(b"byte ")?;
+    line.extend_from_slice(refusal.offset.to_string(alloc)?.as_bytes())?;
+    line.extend_from_slice(b" ")?;
+    line.extend_from_slice(text_kind(refusal.kind).as_bytes())?;
+    line.extend_from_slice(b"\n")?;
+    Ok(line)
+}
+
+// Why cases are refused.
+#[tactic(auto, unfolding(crate::specs::Lines::case_kind))]
+fn case_kind(kind: CaseBad) -> &'static str
+    ensures { result.now ≡ case_kind kind }
+{
+    match kind {
+        CaseBad::Form => "Form",
+        CaseBad::Value => "Value",
+    }
+}
+
+// The number of a case, where there is one. Want of memory is the only refusal.
+#[tactic(auto, unfolding(crate::specs::Lines::case_index))]
+fn case_index(alloc: Global, index: Option<u64>) -> Result<Vec<u8>, Memory>
+    ensures { IfOk result (λ text. text.items ≡ case_index index) }
+{
+    let mut text = Vec::new(alloc);
+    match index {
+        None => text.extend_from_slice(b"-")?,
+        Some(n) => text.extend_from_slice(n.to_string(alloc)?.as_bytes())?,
+    }
+    Ok(text)
+}
+
+/// The line about refused cases: the number of the case from 0, where there is one, and why. Want of memory is the only refusal.
+#[tactic(auto, unfolding(crate::specs::Lines::case_line))]
+pub fn case_line(alloc: Global, refusal: CaseRefusal) -> Result<Vec<u8>, Memory>
+    ensures { IfOk result (λ line. line.items ≡ case_line refusal) }
+{
+    let mut line = Vec::new(alloc);
+    line.extend_from_slice(b"case ")?;
+    line.extend_from_slice(case_index(alloc, refusal.index)?.as_slice())?;
+    line.extend_from_slice(b" ")?;
+    line.extend_from_slice(case_kind(refusal.kind).as_bytes())?;
     line.extend_from_slice(b"\n")?;
     Ok(line)
 }

@@ -12,14 +12,15 @@ ghost use Rattle.c_tree.specs.View.{program_view};
 ghost use Rattle.fi_cli.specs.Source.{IsCompiled, IsRefusal, num_types};
 ghost use Rattle.fi_cli.specs.View.{RefusesAt, AreScalars};
 
-use c_tree::CTree;
+use c_read::one_program;
+use c_tree::{CTree, layout_is_a_text};
 use c_write::write_tree;
 use fic_base::Refusal;
 use mat_ast::Func;
 use mat_parse::parse_list;
 use mat_token::{TokenList, tokens};
 use num_type::{Memory, NumType, Stop};
-use scalar_lower::lower_file;
+use scalar_walk::lower_file;
 use shape_rules::Declared;
 use std::alloc::Global;
 
@@ -59,6 +60,8 @@ fn compile_funcs(
     ensures text { IfOk result (λ text. IsCompiled source.now entry.now types.now text.items) }
     ensures refusal { IfErr result (λ stop. RefusesAt stop (IsRefusal source.now entry.now types.now)) }
 {
+    layout_is_a_text();
+    one_program();
     let nums = num_types(alloc, types)?;
     match lower_file(
         alloc,

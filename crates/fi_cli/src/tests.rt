@@ -8,7 +8,8 @@ use std::test::Fail;
 /// A sum of products, and its program at two inputs of type s8.4.
 const SOURCE: &str = "function y = f(a, b)\ny = a*b + a;\nend\n";
 
-const PROGRAM: &str = "#include <stdint.h>
+/// The program of the source.
+pub const PROGRAM: &str = "#include <stdint.h>
 /* fic f a:s8.4:1x1 b:s8.4:1x1 -> y:s17.8:1x1 */
 int32_t fic_f(const int8_t in_a[1], const int8_t in_b[1], int32_t out_y[1]) {
   int64_t v0 = INT64_C(0);
@@ -31,9 +32,14 @@ fn words(rt: HostRuntime, line: &str) -> Result<Vec<String>, AllocError> {
 
 /// A shelf with one source under `f.m`, which fails at these reads.
 fn shelf(rt: HostRuntime, source: &str, fails: &[u64]) -> Result<MemShelf, AllocError> {
+    let bytes = source.as_bytes().to_vec(rt.alloc())?;
+    shelf_of(rt, bytes, fails)
+}
+
+/// The same with these bytes.
+fn shelf_of(rt: HostRuntime, bytes: Vec<u8>, fails: &[u64]) -> Result<MemShelf, AllocError> {
     let mut files = Vec::new(rt.alloc());
     let name = String::from_str(rt.alloc(), "f.m")?;
-    let bytes = source.as_bytes().to_vec(rt.alloc())?;
     files.push((name, bytes))?;
     let fails = fails.to_vec(rt.alloc())?;
     Ok(MemShelf::new(rt.alloc(), files, fails))
@@ -41,10 +47,13 @@ fn shelf(rt: HostRuntime, source: &str, fails: &[u64]) -> Result<MemShelf, Alloc
 
 /// What a call has to leave.
 #[derive(Clone, Copy)]
-struct Wanted<'a> {
-    status: u8,
-    out: &'a str,
-    err: &'a str,
+pub struct Wanted<'a> {
+    /// Its status.
+    pub status: u8,
+    /// What it writes.
+    pub out: &'a str,
+    /// The line on the error stream.
+    pub err: &'a str,
 }
 
 /// Checks what a call leaves in sinks with room for so many bytes, of which each takes at most 7 a call.
@@ -60,7 +69,7 @@ fn check(
 }
 
 /// The same over a shelf.
-fn check_over(
+pub fn check_over(
     rt: HostRuntime,
     line: &str,
     shelf: &mut MemShelf,
@@ -175,7 +184,14 @@ fn refused_files_tell_their_first_fault(rt: HostRuntime) -> Result<(), Fail> {
 #[test]
 fn words_without_a_form_tell_their_position(rt: HostRuntime) -> Result<(), Fail> {
     formless(rt, "", "word 0\n")?;
-    formless(rt, "run c x 01", "word 0\n")?;
+    formless(rt, "eval f.m f c.txt 0", "word 0\n")?;
+    formless(rt, "run", "word 1\n")?;
+    formless(rt, "run f.c", "word 2\n")?;
+    formless(rt, "run f.c c.txt", "word 3\n")?;
+    formless(rt, "run f.c c.txt 01", "word 3\n")?;
+    formless(rt, "run f.c c.txt -1", "word 3\n")?;
+    formless(rt, "run f.c c.txt 1000001", "word 3\n")?;
+    formless(rt, "run f.c c.txt 0 s8.4", "word 4\n")?;
     formless(rt, "compile", "word 1\n")?;
     formless(rt, "compile f.m", "word 2\n")?;
     formless(rt, "compile f.m end", "word 2\n")?;
@@ -238,4 +254,45 @@ fn a_failed_read_is_told(rt: HostRuntime) -> Result<(), Fail> {
             err: "read f.m\n",
         },
     )
+}
+
+/// The source behind a comment, with so many bytes in all.
+fn long_source(rt: HostRuntime, bytes: usize) -> Result<Vec<u8>, AllocError> {
+    let mut text = vec![in rt.alloc(); b'%'; bytes.saturating_sub(SOURCE.len() + 1)]?;
+    text.push(b'\n')?;
+    text.extend_from_slice(SOURCE.as_bytes())?;
+    Ok(text)
+}
+
+#[test]
+fn a_source_has_at_most_1048576_bytes(rt: HostRuntime) -> Result<(), Fail> {
+    for (bytes, wanted) in [
+        (
+            1_048_576,
+            Wanted {
+                status: 0,
+                out: PROGRAM,
+                err: "",
+            },
+        ),
+        (
+            1_048_577,
+            Wanted {
+                status: 1,
+                out: "",
+                err: "1:1 E20 1048576\n",
+            },
+        ),
+    ] {
+        let text = long_source(rt, bytes)?;
+        let mut shelf = shelf_of(rt, text, &[])?;
+        check_over(
+            rt,
+            "compile f.m f s8.4 s8.4",
+            &mut shelf,
+            (2000, 2000),
+            wanted,
+        )?;
+    }
+    Ok(())
 }

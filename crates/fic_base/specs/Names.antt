@@ -1,6 +1,6 @@
 -- Names of functions and variables.
-use Rattle.std.specs.Prelude.{◌≡◌, ◌≢◌, ℕ, ◌≤◌, Bool, false, ◌&&◌, ◌||◌, ◌==◌, nat_le, List, [], ◌∷◌, length, codes, IsTrue, All}
-use Rattle.std.specs.List.{list_all}
+use Rattle.std.specs.Prelude.{◌≡◌, ◌≢◌, ℕ, ◌≤◌, Bool, false, ◌&&◌, ◌||◌, ◌==◌, nat_le, List, [], ◌∷◌, length, codes, bytes_eq, IsTrue, All}
+use Rattle.std.specs.List.{list_all, list_any}
 
 abbrev pub is_digit : ℕ → Bool
 is_digit b = nat_le 48 b && nat_le b 57
@@ -22,6 +22,9 @@ keywords =
     codes "function" ∷ codes "end" ∷ codes "if" ∷ codes "elseif" ∷ codes "else" ∷ codes "for" ∷ codes "while" ∷ codes "break" ∷ codes "continue"
     ∷ codes "switch" ∷ codes "case" ∷ codes "otherwise" ∷ codes "return" ∷ codes "try" ∷ codes "catch" ∷ codes "global" ∷ codes "persistent"
     ∷ codes "parfor" ∷ codes "spmd" ∷ codes "classdef" ∷ []
+
+abbrev pub is_keyword : List ℕ → Bool
+is_keyword word = list_any (bytes_eq word) keywords
 
 -- a letter and then letters, digits and `_`, at most 63 bytes, and no keyword
 pub record IsName (name : List ℕ) : Type 0 where

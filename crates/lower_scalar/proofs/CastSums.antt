@@ -73,7 +73,7 @@ difference_fitted_sized Wrap true w k = record { depth = omega arith; reads = om
 difference_fitted_sized Wrap false w k = record { depth = omega arith; reads = omega arith }
 
 -- a part that quantises has three variables of its own at most
-few_words : (m : Rounding) (a : Overflow) (t from : NumericType) (e : Exp) (x : ℕ) → length (quantised_part m a t from e x).words ≤ 100
+pub few_words : (m : Rounding) (a : Overflow) (t from : NumericType) (e : Exp) (x : ℕ) → length (quantised_part m a t from e x).words ≤ 100
 unfolding quantised_by raised_part lowered_part
 few_words m a t from e x = by (t.fraction -ℤ from.fraction)
   where

@@ -9,4 +9,10 @@ mod raises;
 mod rounds;
 mod signs;
 
-pub use quantise::lower_quantise;
+pub use fits::least;
+pub use numbers::{ones, power, top};
+pub use parts::{alone, over_one};
+pub use quantise::{lower_quantise, quantise_part};
+pub use raises::raise;
+pub use rounds::{far_floor, floor_shift, low_bits};
+pub use signs::{below_zero, bits_of, choose_less, constant, minus_one, resigned, word_for};

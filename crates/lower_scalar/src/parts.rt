@@ -1,6 +1,6 @@
 //! Parts over variables of their own.
 
-ghost use Rattle.std.specs.Prelude.{◌≡◌, ◌≤◌, ◌<◌, ◌^◌, IfOk};
+ghost use Rattle.std.specs.Prelude.{◌≡◌, ◌≤◌, ◌<◌, ◌+◌, ◌^◌, IfOk};
 ghost use Rattle.c_tree.specs.View.{expr_view};
 ghost use Rattle.lower_scalar.specs.Part.{part_view};
 ghost use Rattle.lower_scalar.specs.Shapes;
@@ -52,7 +52,7 @@ pub fn over_two(
     second: CExpr,
     value: CExpr,
 ) -> Result<CPart, Memory>
-    requires { fresh ≤ 2 ^ 31 }
+    requires { fresh ≤ 2 ^ 31 + 2 ^ 30 }
     ensures { IfOk result (λ p. part_view p ≡ Shapes.over_two signed (expr_view e) fresh (expr_view second) (expr_view value)) }
 {
     let mut words = Items::new(alloc);
@@ -78,7 +78,7 @@ pub fn over_three(
     third: CExpr,
     value: CExpr,
 ) -> Result<CPart, Memory>
-    requires { fresh ≤ 2 ^ 31 }
+    requires { fresh ≤ 2 ^ 31 + 2 ^ 30 }
     ensures { IfOk result (λ p. part_view p ≡ Shapes.over_three signed (expr_view e) fresh (expr_view second) (expr_view third) (expr_view value)) }
 {
     let mut words = Items::new(alloc);

@@ -1,6 +1,6 @@
 //! Quantisation: exact values taken to a type.
 
-ghost use Rattle.std.specs.Prelude.{◌≡◌, ◌≤◌, ◌<◌, ◌^◌, IfOk, true};
+ghost use Rattle.std.specs.Prelude.{◌≡◌, ◌≤◌, ◌<◌, ◌+◌, ◌^◌, IfOk, true};
 ghost use Rattle.num_type.specs.View.{type_of};
 ghost use Rattle.c_tree.specs.View.{expr_view};
 ghost use Rattle.lower_scalar.specs.Part.{part_view, reach, Quantises};
@@ -36,8 +36,8 @@ pub fn lower_quantise(
     Ok(p)
 }
 
-// The part as it is written.
-fn quantise_part(
+/// The same part, with how it is written.
+pub fn quantise_part(
     alloc: Global,
     t: NumType,
     method: Rounding,
@@ -46,7 +46,7 @@ fn quantise_part(
     e: CExpr,
     fresh: u32,
 ) -> Result<CPart, Memory>
-    requires room { fresh ≤ 2 ^ 31 }
+    requires room { fresh ≤ 2 ^ 31 + 2 ^ 30 }
     ensures { IfOk result (λ p. part_view p ≡ Shapes.quantised_part method action (type_of t) (type_of from) (expr_view e) fresh) }
 {
     let high = t.fraction();
@@ -109,7 +109,7 @@ fn lowered_part(
     k: u32,
     fresh: u32,
 ) -> Result<CPart, Memory>
-    requires room { fresh ≤ 2 ^ 31 }
+    requires room { fresh ≤ 2 ^ 31 + 2 ^ 30 }
     requires some { 1 ≤ k }
     ensures { IfOk result (λ p. part_view p ≡ Shapes.lowered_part method action (type_of t) (type_of from) (expr_view e) k fresh) }
 {

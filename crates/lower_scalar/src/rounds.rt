@@ -44,8 +44,8 @@ fn shift_right(alloc: Global, e: CExpr, k: u32) -> Result<CExpr, Memory>
     Ok(r)
 }
 
-// The low `k` bits of the word in `x`.
-fn low_bits(alloc: Global, signed: bool, x: u32, k: u32) -> Result<CExpr, Memory>
+/// The low `k` bits of the word in `x`.
+pub fn low_bits(alloc: Global, signed: bool, x: u32, k: u32) -> Result<CExpr, Memory>
     requires some { 1 ≤ k }
     requires most { k ≤ 64 }
     ensures { IfOk result (λ r. expr_view r ≡ Shapes.low_bits signed x k) }
@@ -195,8 +195,8 @@ fn least_below(alloc: Global, x: u32, k: u32) -> Result<CExpr, Memory>
     }
 }
 
-// -1 where a signed word is below 0, and else 0.
-fn far_floor(alloc: Global, signed: bool, x: u32) -> Result<CExpr, Memory>
+/// -1 where a signed word is below 0, and else 0: the word divided by `2^k` and rounded down, where `k` is 64 bits or more.
+pub fn far_floor(alloc: Global, signed: bool, x: u32) -> Result<CExpr, Memory>
     ensures { IfOk result (λ r. expr_view r ≡ Shapes.far_floor signed x) }
 {
     if signed {

@@ -102,34 +102,16 @@ pub fn purposed(
             after(alloc, word, steps, around)
         }
         Purpose::Arm(steps, at, cases, around) => {
-            entered(
-                alloc,
-                place,
-                word,
-                own,
-                Body::If(steps, at, cases, part),
-                around,
-            )
+            let body = Body::If(steps, at, cases, part);
+            entered(alloc, place, word, own, body, around)
         }
         Purpose::While(steps, at, around) => {
-            entered(
-                alloc,
-                place,
-                word,
-                own,
-                Body::While(steps, at, part),
-                around,
-            )
+            let body = Body::While(steps, at, part);
+            entered(alloc, place, word, own, body, around)
         }
         Purpose::For(steps, at, to, around) => {
-            entered(
-                alloc,
-                place,
-                word,
-                own,
-                Body::For(steps, at, to, part),
-                around,
-            )
+            let body = Body::For(steps, at, to, part);
+            entered(alloc, place, word, own, body, around)
         }
         Purpose::Argument(belongs, opened, given) => {
             argued(alloc, word, part, Caller::Statement(belongs), opened, given)

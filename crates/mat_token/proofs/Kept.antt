@@ -15,7 +15,8 @@ use Rattle.mat_token.specs.declared.rule.Rule.{Rule}
 use Rattle.mat_token.specs.declared.rule.Rule.TheVariants.{Block, Newline, Blank, Comment, Continued, Word, Number, Words, Op}
 use Rattle.mat_token.specs.declared.rule.Context.{Context}
 use Rattle.mat_token.specs.Lexeme.{text_of}
-use Rattle.mat_token.specs.Rules.{rule_at, kind_of, word_kind, is_keyword}
+use Rattle.fic_base.specs.Names.{is_keyword}
+use Rattle.mat_token.specs.Rules.{rule_at, kind_of, word_kind}
 use Rattle.mat_token.specs.Texts.{IsOf, IsPiece}
 use Rattle.mat_token.specs.Reads.{Outcome, Gives, Refuses, Reads, Ends, Stops, GoesOn, ReadsWhole, first_context, first_place, next_place, place_after, tokens_of, token_of, preceded}
 use Rattle.mat_token.specs.Brackets.{separated, with_separator, separator_at, is_separated, open_after}

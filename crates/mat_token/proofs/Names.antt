@@ -1,18 +1,17 @@
 -- The text of a name token is a name.
 use Rattle.std.proofs.lemmas.Bool.{false≢true}
 use Rattle.std.proofs.lemmas.List.{length-take-le}
-use Rattle.std.proofs.lemmas.List.Elements.{All-from_recursion, All-weaker}
-use Rattle.std.proofs.lemmas.Slice.Eq.{bytes_eq-Decides}
-use Rattle.std.specs.List.{All, AllByRecursion, list_all, list_any}
-use Rattle.std.proofs.Common.{◌≡◌, ◌≢◌, ℕ, ◌<◌, Bool, true, false, List, [], ◌∷◌, length, take, get_or, refl, sym, ap, ◌∙◌, subst, Some, arith}
-use Rattle.std.specs.Prelude.{zero, suc, if◌then◌else◌, ◌||◌, ◌==◌, bytes_eq}
-use Rattle.fic_base.specs.Names.{is_letter, is_digit, is_name_byte, begins_with_letter, keywords, IsName}
+use Rattle.std.specs.List.{list_all}
+use Rattle.std.proofs.Common.{◌≡◌, ℕ, ◌<◌, Bool, true, false, List, [], ◌∷◌, length, take, get_or, refl, sym, ap, ◌∙◌, subst, Some, arith}
+use Rattle.std.specs.Prelude.{zero, suc, if◌then◌else◌, ◌||◌, ◌==◌}
+use Rattle.fic_base.specs.Names.{is_letter, is_digit, is_name_byte, begins_with_letter, is_keyword, IsName}
+use Rattle.fic_base.proofs.NameTests.{no_keyword}
 use Rattle.mat_token.specs.declared.token.Kind.{Kind}
 use Rattle.mat_token.specs.declared.token.Kind.TheVariants as kind
 use Rattle.mat_token.specs.declared.rule.Rule.{Rule}
 use Rattle.mat_token.specs.declared.rule.Rule.TheVariants.{Block, Newline, Blank, Comment, Continued, Word, Number, Words, Op}
 use Rattle.mat_token.specs.declared.rule.Context.{Context}
-use Rattle.mat_token.specs.Rules.{rule_at, kind_of, is_keyword}
+use Rattle.mat_token.specs.Rules.{rule_at, kind_of}
 use Rattle.mat_token.specs.Texts.{AllPassIn, IsOf, IsPiece}
 use Rattle.mat_token.proofs.Numbers.{neither}
 use Rattle.mat_token.proofs.Piece.{word_begins}
@@ -30,22 +29,6 @@ front_passes p (b ∷ s) (suc n) h = neither _ _ (h 0 (omega arith)) (front_pass
 
 letter_passes : (b : ℕ) → is_letter b ≡ true → is_name_byte b ≡ true
 letter_passes b h = ap (λ (v : Bool). v || (is_digit b || b == 95)) h
-
-both_false : (a b : Bool) → (a || b) ≡ false → (a ≡ false) × (b ≡ false)
-both_false true b h = absurd (false≢true (sym h))
-both_false false b h = (refl, h)
-
-none_of : (p : List ℕ → Bool) (xs : List (List ℕ)) → list_any p xs ≡ false → AllByRecursion (λ x. p x ≡ false) xs
-none_of p [] h = tt
-none_of p (x ∷ xs) h = let parts = both_false (p x) (list_any p xs) h in (parts.0, none_of p xs parts.1)
-
-differs : (name word : List ℕ) → bytes_eq name word ≡ false → word ≢ name
-differs name word h e = false≢true (sym h ∙ (bytes_eq-Decides name word).1 (sym e))
-
-no_keyword : (name : List ℕ) → is_keyword name ≡ false → All (λ word. word ≢ name) keywords
-no_keyword name h =
-    All-weaker (λ word. bytes_eq name word ≡ false) (λ word. word ≢ name) (differs name) keywords
-    (All-from_recursion (λ word. bytes_eq name word ≡ false) keywords (none_of (bytes_eq name) keywords h))
 
 kind_same : (j k : Kind) → Some j ≡ Some k → j ≡ k
 kind_same j k e = cc

@@ -2,12 +2,13 @@
 use Rattle.std.specs.Prelude.{ℕ, ◌+◌, ◌-◌, Bool, true, false, List, [], ◌∷◌, not, ◌&&◌, ◌||◌, ◌==◌, nat_lt, slice_index, if◌then◌else◌, Option, Some, None, codes, bytes_eq}
 use Rattle.std.specs.List.{list_any}
 use Rattle.fic_base.specs.declared.place.Place.{Place}
+use Rattle.fic_base.specs.Names.{is_keyword}
 use Rattle.mat_token.specs.declared.token.Kind.{Kind}
 use Rattle.mat_token.specs.declared.token.Kind.TheVariants as kind
 use Rattle.mat_token.specs.declared.rule.Rule.{Rule}
 use Rattle.mat_token.specs.declared.rule.Rule.TheVariants.{Block, Newline, Blank, Comment, Continued, Word, Number, Words, Op}
 use Rattle.mat_token.specs.declared.rule.Context.{Context}
-use Rattle.mat_token.specs.Bytes.{is_digit, is_letter, starts_blank, starts_dots, starts_mark, line_marks, keywords}
+use Rattle.mat_token.specs.Bytes.{is_digit, is_letter, starts_blank, starts_dots, starts_mark, line_marks}
 
 -- how many block comments are open after a line
 abbrev pub depth_after : ℕ → List ℕ → ℕ
@@ -34,10 +35,6 @@ rule_at c s =
     else (if slice_index s 0 == 37 then rule_of_comment c s
     else (if starts_dots s then Continued
     else rule_of_token c s))))
-
--- whether a word is no name
-abbrev pub is_keyword : List ℕ → Bool
-is_keyword word = list_any (bytes_eq word) keywords
 
 -- a word is a keyword or a name
 abbrev pub word_kind : List ℕ → Kind

@@ -1,34 +1,13 @@
 //! Bytes of a source, and what its lines look like.
 
 ghost use Rattle.std.specs.Prelude.{◌≡◌, slice_index, drop};
-ghost use Rattle.mat_token.specs.Bytes.{is_digit, is_letter, is_name_byte, is_line_byte, is_printable, starts_blank, starts_dots, rest_is_blank, starts_mark, line_marks};
+ghost use Rattle.mat_token.specs.Bytes.{is_line_byte, is_printable, starts_blank, starts_dots, rest_is_blank, starts_mark, line_marks};
 
 /// The byte at an index, or 0 past the end.
 pub(crate) fn byte(s: &[u8], at: usize) -> u8
     ensures { result ≡ slice_index s.now at }
 {
     if at < s.len() { s[at] } else { 0 }
-}
-
-/// Whether a byte is a decimal digit.
-pub(crate) fn is_digit(b: u8) -> bool
-    ensures { result ≡ is_digit b }
-{
-    48 <= b && b <= 57
-}
-
-/// Whether a byte is a letter.
-pub(crate) fn is_letter(b: u8) -> bool
-    ensures { result ≡ is_letter b }
-{
-    (65 <= b && b <= 90) || (97 <= b && b <= 122)
-}
-
-/// Whether a byte may stand in a name: a letter, a digit or `_`.
-pub(crate) fn is_name_byte(b: u8) -> bool
-    ensures { result ≡ is_name_byte b }
-{
-    is_letter(b) || is_digit(b) || b == b'_'
 }
 
 /// Whether a byte is no line feed.

@@ -13,7 +13,6 @@ mod separate;
 #[cfg(test)]
 mod tests;
 mod token;
-mod words;
 
 pub use laws::one_outcome;
 pub use list::{TokenList, tokens};

@@ -7,7 +7,8 @@ ghost use Rattle.mat_token.specs.Texts.{takes_point, is_operator, is_long_operat
 ghost use Rattle.mat_token.specs.Bytes.{is_name_byte};
 ghost use Rattle.std.specs.List.{prefix_len};
 
-use crate::bytes::{byte, is_digit, is_line_byte, is_name_byte, is_printable};
+use crate::bytes::{byte, is_line_byte, is_printable};
+use fic_base::{is_digit, is_name_byte};
 
 /// How many bytes stand before the end of the line.
 fn line_len(s: &[u8]) -> usize

@@ -5,11 +5,10 @@ ghost use Rattle.mat_token.specs.Rules.{depth_after, rule_at, kind_of, ends_oper
 ghost use Rattle.mat_token.specs.Pieces.{block_len, piece_len, name_len};
 ghost use Rattle.mat_token.specs.declared.rule.Rule.TheVariants.{Block};
 
-use crate::bytes::{byte, is_digit, is_letter, line_marks, starts_blank, starts_dots, starts_mark};
+use crate::bytes::{byte, line_marks, starts_blank, starts_dots, starts_mark};
 use crate::pieces::{comment_len, full_line_len, number_len, operator_len, text_len, word_len};
 use crate::token::Kind;
-use crate::words::is_keyword;
-use fic_base::Place;
+use fic_base::{Place, is_digit, is_keyword, is_letter};
 
 /// The most bytes of a name.
 pub(crate) const NAME_MAX: usize = 63;

@@ -83,6 +83,12 @@ fn worked_texts(rt: HostRuntime) -> Result<(), Fail> {
         ("a\rb", "1:2 E01 0d"),
         ("x = 'a\n'", "1:5 E02 '"),
         ("..", "1:1 E01 2e"),
+        ("1' 2.5'", "d1 o' d2.5 o' f "),
+        ("[a]' (a)'", "o[ na o] o' o( na o) o' f "),
+        ("\"a\"'b'", "t\"a\" t'b' f "),
+        ("'a'\n'b'", "t'a' l t'b' f "),
+        ("a\n'", "2:1 E02 '"),
+        ("a+'b'", "na o+ t'b' f "),
         ("\"\t\"", "1:1 E02 \""),
     ];
     for (source, wanted) in rows {
@@ -99,6 +105,9 @@ fn limits(rt: HostRuntime) -> Result<(), Fail> {
     assert_eq!(rt; got.as_slice(), b"1:1 E20 63".as_slice());
     let got = shown(rt.alloc(), &long[..63])?;
     assert_eq!(rt; got.len(), 1 + 63 + 1 + 2);
+    let blanks = vec![in rt.alloc(); b' '; 1_048_576]?;
+    let got = shown(rt.alloc(), &blanks)?;
+    assert_eq!(rt; got.as_slice(), b"f ".as_slice());
     let blanks = vec![in rt.alloc(); b' '; 1_048_577]?;
     let got = shown(rt.alloc(), &blanks)?;
     assert_eq!(rt; got.as_slice(), b"1:1 E20 1048576".as_slice());

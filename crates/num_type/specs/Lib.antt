@@ -1,3 +1,4 @@
+pub mod Constants
 pub mod Containers
 pub mod Decimals
 pub mod Types

@@ -1,6 +1,6 @@
 //! Whole numbers of up to 128 bits and a sign.
 
-ghost use Rattle.std.specs.Prelude.{◌≡◌, ◌<◌, ◌^◌, ◌<ℤ◌, ◌≤ℤ◌, ◌⊎◌, ◌↔◌, ℤ, pos, neg_ℤ, unsigned_abs, IfSome, IsNone};
+ghost use Rattle.std.specs.Prelude.{◌≡◌, ◌<◌, ◌^◌, ◌<ℤ◌, ◌≤ℤ◌, ◌⊎◌, ◌↔◌, ℤ, pos, neg_ℤ, unsigned_abs, IfSome, IsNone, IsTrue};
 ghost use Rattle.num_type.specs.Whole.{signed, is_below_zero};
 
 use std::marker::Model;
@@ -55,6 +55,17 @@ impl Int {
         ensures { result ≡ v }
     {
         Int::of(v < 0, v.unsigned_abs())
+    }
+
+    /// Whether the number is at most another one.
+    pub fn at_most(self, other: Int) -> bool
+        ensures { IsTrue result ↔ (self ≤ℤ other) }
+    {
+        if self.neg {
+            !other.neg || other.mag <= self.mag
+        } else {
+            !other.neg && self.mag <= other.mag
+        }
     }
 
     /// The number as a machine integer. None exactly where it isn't from -2^63 to 2^63 - 1.

@@ -66,3 +66,20 @@ fn types(rt: HostRuntime) -> Result<(), Fail> {
     }
     Ok(())
 }
+
+#[test]
+fn constants(rt: HostRuntime) -> Result<(), Fail> {
+    let half = Dyadic::make(4, -3).ok_or("4 * 2^-3")?;
+    assert_eq!(rt; half.significand(), 1);
+    assert_eq!(rt; half.exponent(), -1);
+    let most = Dyadic::make(1, 452).ok_or("2^452")?;
+    assert!(rt; most.mul(half).is_some());
+    assert!(rt; most.mul(most).is_none());
+    for (m, e) in [(1, 453), (1, -401), ((1 << 53) + 1, 0), (3, 452)] {
+        assert!(rt; Dyadic::make(m, e).is_none());
+    }
+    for (m, e) in [(2, -401), (1 << 62, 390), (0, 1000), (3, 451)] {
+        assert!(rt; Dyadic::make(m, e).is_some());
+    }
+    Ok(())
+}

@@ -1,3 +1,4 @@
+pub mod Ranges
 pub mod Splits
 pub mod Texts
 pub mod Readers

@@ -1,4 +1,5 @@
 pub mod Shapes
 pub mod TypeText
 pub mod Pieces
+pub mod Places
 pub mod Declarations

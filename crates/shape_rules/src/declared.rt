@@ -109,8 +109,8 @@ fn read_lengths(signed: bool, bytes: &[u8]) -> Option<NumType>
     }
 }
 
-// The shape of a text such as `1x4`. None exactly where the text is that of no shape.
-fn read_shape(bytes: &[u8]) -> Option<Shape>
+/// The shape of a text such as `1x4`. None exactly where the text is that of no shape.
+pub fn read_shape(bytes: &[u8]) -> Option<Shape>
     ensures { ReadsShape result bytes.now }
 {
     match split(bytes, b'x') {

@@ -1,6 +1,7 @@
 //! Declared types and their texts.
 
 use crate::declared::read_type;
+use crate::range::range_items;
 use crate::write::write_type;
 use std::test::Fail;
 
@@ -53,5 +54,18 @@ fn texts_of_no_type_are_refused(rt: HostRuntime) {
         "s8.4:c:c",
     ] {
         assert!(rt; read_type(text.as_bytes()).is_none(), "{text}");
+    }
+}
+
+#[test]
+fn ranges_have_their_items(rt: HostRuntime) {
+    for (first, step, last, items) in [
+        (1, 1, 4, 4),
+        (4, -1, 1, 4),
+        (1, 2, 4, 2),
+        (1, 0, 4, 0),
+        (4, 1, 1, 0),
+    ] {
+        assert_eq!(rt; range_items(first, step, last), items);
     }
 }

@@ -1,8 +1,8 @@
 use Rattle.std.proofs.Common.{◌∙◌, ap, sym}
 use Rattle.std.specs.Prelude.{slice_get}
 use Rattle.c_grammar.specs.Machine.{owe, step}
-use Rattle.c_parse.specs.View.{reading_view, reader_view}
-use Rattle.c_parse.proofs.Goes.{goes, goes_option}
+use Rattle.c_parts.specs.View.{reading_view, reader_view}
+use Rattle.c_moves.proofs.Goes.{goes, goes_option}
 use Rattle.c_parse.proofs.Owed.{due, none_due}
 use Rattle.c_parse.proofs.advance.step.Goals as goal
 

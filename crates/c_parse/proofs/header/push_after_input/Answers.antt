@@ -1,5 +1,5 @@
 use Rattle.c_parse.proofs.Headers.{after_input}
-use Rattle.c_parse.proofs.Stacks.{on_ok}
+use Rattle.c_parts.proofs.Stacks.{on_ok}
 use Rattle.c_parse.proofs.header.push_after_input.Goals as goal
 
 pub returns : goal.returns

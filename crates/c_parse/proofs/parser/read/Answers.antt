@@ -1,6 +1,6 @@
 use Rattle.std.proofs.Common.{arith}
 use Rattle.c_tree.specs.View.{interface_view}
-use Rattle.c_parse.specs.View.{past_view}
+use Rattle.c_parts.specs.View.{past_view}
 use Rattle.c_parse.proofs.Read.{step_refused, step_read, end_refused, end_read}
 use Rattle.c_parse.proofs.parser.read.Goals as goal
 

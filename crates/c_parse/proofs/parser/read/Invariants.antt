@@ -1,7 +1,7 @@
 use Rattle.std.proofs.Common.{◌≡◌, ◌≤◌, ◌-◌, take, length}
 use Rattle.c_tree.specs.View.{interface_view}
 use Rattle.c_grammar.specs.Machine.{state}
-use Rattle.c_parse.specs.View.{reader_view}
+use Rattle.c_parts.specs.View.{reader_view}
 use Rattle.c_parse.proofs.parser.read.Given as goal
 
 abbrev pub invariant-loop-index : goal.invariant-loop-index

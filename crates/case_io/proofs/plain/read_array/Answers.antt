@@ -1,4 +1,4 @@
-use Rattle.std.proofs.Common.{◌≡◌, [], refl}
+use Rattle.std.proofs.Common.{[], refl}
 use Rattle.std.specs.Prelude.{IsTrue}
 use Rattle.case_io.specs.Cases.{IsWithin}
 use Rattle.case_io.specs.View.{range_view}

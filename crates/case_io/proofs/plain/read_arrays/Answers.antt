@@ -1,4 +1,4 @@
-use Rattle.std.proofs.Common.{◌≡◌, ◌≤◌, ◌+◌, ◌-◌, ℕ, [], ◌∷◌, ◌++◌, drop, take, map, length, arith, sym, ap, ◌∙◌, subst, Some, None}
+use Rattle.std.proofs.Common.{◌≡◌, ◌+◌, [], ◌∷◌, ◌++◌, drop, take, length, arith, sym, ap, ◌∙◌, subst, Some}
 use Rattle.std.proofs.lemmas.List.{length-map, length-drop, map-append}
 use Rattle.std.specs.Prelude.{IsTrue, All}
 use Rattle.case_io.specs.View.{range_view, ranges_view}

@@ -1,8 +1,5 @@
-use Rattle.std.proofs.Common.{◌≡◌, ◌++◌, ◌≤◌, drop, map, length}
-use Rattle.std.specs.Prelude.{All, IsTrue, flat_map}
-use Rattle.case_io.specs.Cases.{AreInputs, elements}
+use Rattle.std.proofs.Common.{◌≤◌, drop, length}
 use Rattle.case_io.specs.View.{ranges_view}
-use Rattle.case_io.specs.Plain.{value_of, is_canonical}
 use Rattle.case_io.specs.Reads.{texts_of, lists_of}
 use Rattle.case_io.proofs.Arrays.{BehindArrays}
 use Rattle.case_io.proofs.plain.read_arrays.Given as goal

@@ -1,10 +1,10 @@
-use Rattle.std.proofs.Common.{◌≡◌, [], ◌∷◌, ◌++◌, true, false, Some, None, length, refl, sym, ap, ◌∙◌, subst, nat_eq}
+use Rattle.std.proofs.Common.{◌≡◌, [], ◌∷◌, ◌++◌, false, Some, None, length, refl, sym, ap, ◌∙◌, subst, nat_eq}
 use Rattle.std.proofs.lemmas.List.{length-map}
 use Rattle.c_tree.specs.View.{interface_view}
 use Rattle.case_io.specs.Cases.{input_ranges, elements}
 use Rattle.case_io.specs.View.{ranges_view}
-use Rattle.case_io.specs.Plain.{AreLines, HasForm, HasNoForm, HasBadValue, IsCase}
-use Rattle.case_io.specs.Reads.{texts_of, lists_of, ReadsLines, ReadsArrays}
+use Rattle.case_io.specs.Plain.{AreLines, HasForm}
+use Rattle.case_io.specs.Reads.{texts_of, ReadsLines, ReadsArrays}
 use Rattle.case_io.proofs.Whole.{equal, bad_count, bad_value, is_case}
 use Rattle.case_io.proofs.plain.read_cases.Goals as goal
 

@@ -1,7 +1,6 @@
-use Rattle.std.proofs.Common.{◌≡◌, false, true, sym, ap, ◌∙◌, subst}
+use Rattle.std.proofs.Common.{sym, subst}
 use Rattle.case_io.specs.Cases.{IsWithin}
 use Rattle.case_io.specs.View.{range_view}
-use Rattle.case_io.specs.Plain.{value_of}
 use Rattle.case_io.proofs.Texts.{read_is, too_wide, none_is}
 use Rattle.case_io.proofs.plain.read_value.Goals as goal
 

@@ -1,5 +1,7 @@
-use Rattle.fi_cli.proofs.TypeWords.{are_scalars}
+use Rattle.std.proofs.Common.{map, string_bytes}
+use Rattle.fi_cli.specs.View.{command_view}
+use Rattle.fi_cli.proofs.TypeWords.{has_scalars}
 use Rattle.fi_cli.proofs.call.carry_out.Goals as goal
 
-pub compile-requires : goal.compile-requires
-compile-requires g c = are_scalars c.in-Ok.ensures.form.types c.in-Ok.command.types.items c.in-Ok.ensures.form.are_types
+pub obey-requires : goal.obey-requires
+obey-requires g c = has_scalars (command_view c.in-Ok.command) (map string_bytes c.args.words.now) c.in-Ok.ensures.form

@@ -6,10 +6,10 @@ use Rattle.mat_token.specs.Lexeme.{lexemes_of}
 use Rattle.fi_eval.specs.Meaning.{function_named}
 use Rattle.c_tree.specs.declared.tree.CTree.{CTree}
 use Rattle.c_tree.specs.View.{program_view}
-use Rattle.scalar_lower.specs.Shown.{text_at}
-use Rattle.scalar_lower.specs.Walk.{walked}
-use Rattle.scalar_lower.specs.Lowered.{real_slots}
-use Rattle.scalar_lower.specs.Correspondence.{IsProgramOf}
+use Rattle.scalar_walk.specs.Shown.{text_at}
+use Rattle.scalar_walk.specs.Walk.{walked}
+use Rattle.scalar_walk.specs.Lowered.{real_slots}
+use Rattle.scalar_walk.specs.Correspondence.{IsProgramOf}
 use Rattle.fi_cli.specs.Source.{num_types}
 use Rattle.fi_cli.proofs.Sources.{compiled, walk_refused, told_refusal}
 use Rattle.fi_cli.proofs.source.compile_funcs.Goals as goal
@@ -25,7 +25,7 @@ returns-in-Ok-clause-text c =
     (λ f e h. subst (λ (ns : List NumericType). IsProgramOf (funcs_view c.args.funcs.now) c.args.entry.now (real_slots f.inputs ns) (program_view c.in-Ok.tree)) nums
     (subst (λ (name : List ℕ). IsProgramOf (funcs_view c.args.funcs.now) name (real_slots f.inputs (map type_of c.as_slice.result.now)) (program_view c.in-Ok.tree)) c.as_bytes.ensures.value
     (c.in-Ok.ensures.right f (subst (λ (name : List ℕ). function_named (funcs_view c.args.funcs.now) name ≡ Some f) (sym c.as_bytes.ensures.value) e) h)))
-    c.in_ok-text_of-in-Ok.ensures
+    c.in_ok-text_of-in-Ok.ensures c.layout_is_a_text.ensures c.one_program.ensures
 
 pub returns-clause-refusal : goal.returns-clause-refusal
 returns-clause-refusal c =

@@ -6,7 +6,10 @@ use Rattle.c_tree.specs.Tokens.{body_token, closing_token}
 use Rattle.c_tree.specs.Run.{zero_word}
 use Rattle.c_run.specs.Shape.{program_shape}
 use Rattle.c_run.specs.Fit.{AreInputs}
+use Rattle.std.proofs.lemmas.List.{length-map}
+use Rattle.c_tree.specs.Whole.{program_of}
 use Rattle.c_run.proofs.Limits.{none_over}
+use Rattle.c_run.proofs.Lists.{outputs_count}
 use Rattle.c_run.proofs.machine.Machine.run.Goals as goal
 
 pub run_tree-requires-clause-shaped : goal.run_tree-requires-clause-shaped
@@ -23,3 +26,8 @@ run_tree-requires-clause-within c = none_over (program_view c.tree-tree.result.n
 
 pub run_tree-requires-clause-inputs : goal.run_tree-requires-clause-inputs
 run_tree-requires-clause-inputs c = subst (λ (t : CTree). AreInputs (arrays_of (program_view t)).inputs (map vec_items c.args.inputs.now)) (sym c.tree-tree.ensures.value) c.requires
+
+pub returns-clause-count : goal.returns-clause-count
+returns-clause-count c =
+    length-map c.run_tree.new.frame.outputs (λ cells. cells.items)
+    ∙ sym (outputs_count (program_of c.args.self.now.program.now) c.run_tree.new.frame (c.run_tree.ensures.shaped ∙ c.args.self.now.shaped))

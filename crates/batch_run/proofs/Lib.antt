@@ -1,0 +1,4 @@
+pub mod Inputs
+mod Cases
+mod Boxes
+mod Powers

@@ -1,0 +1,3 @@
+mod ReadTree
+mod Fronts
+mod Walk

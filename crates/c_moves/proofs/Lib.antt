@@ -1,0 +1,4 @@
+pub mod Blocks
+pub mod Casts
+pub mod Frames
+pub mod Goes

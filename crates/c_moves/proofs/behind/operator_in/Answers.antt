@@ -1,0 +1,18 @@
+use Rattle.std.proofs.Common.{◌∷◌, ap, sym}
+use Rattle.c_tree.specs.View.{expr_view}
+use Rattle.c_grammar.specs.Machine.{Stuck, with_operator}
+use Rattle.c_parts.specs.View.{frame_view, frames_of, purpose_view, past_view}
+use Rattle.c_moves.proofs.Goes.{goes, goes_option}
+use Rattle.c_moves.proofs.Frames.{no_operator}
+use Rattle.c_moves.proofs.behind.operator_in.Goals as goal
+
+pub returns-in-First : goal.returns-in-First
+unfolding frame_view
+returns-in-First c =
+    goes c.operated.result _ _ (ap (λ f. with_operator c.args.op (expr_view c.args.e) c.args.t (frame_view f ∷ frames_of c.args.pending.frames) (purpose_view c.args.pending.purpose) (past_view c.args.pending.past)) (sym c.in-First.is)) c.operated.ensures
+
+pub returns-in_default : goal.returns-in_default
+returns-in_default c =
+    goes_option c.refuse_in.result Stuck _
+    (no_operator c.args.op (expr_view c.args.e) c.args.t c.args.frame (frames_of c.args.pending.frames) (purpose_view c.args.pending.purpose) (past_view c.args.pending.past) c.in_default.not-First)
+    c.refuse_in.ensures

@@ -1,6 +1,0 @@
-use Rattle.std.proofs.Common.{length}
-use Rattle.c_parse.specs.View.{frames_of}
-use Rattle.c_parse.proofs.operand.+given.Given as goal
-
-abbrev pub decreases-given : goal.decreases-given
-decreases-given l = length (frames_of l.pending.frames)

@@ -1,5 +1,0 @@
-use Rattle.c_parse.proofs.Stacks.{popped}
-use Rattle.c_parse.proofs.stack.pop.Goals as goal
-
-pub returns : goal.returns
-returns c = popped c.pop.result c.args.frames.now c.pop.new.self c.pop.ensures

@@ -1,5 +1,0 @@
-use Rattle.c_parse.proofs.Blocks.{with_one}
-use Rattle.c_parse.proofs.statement.with_statement.Goals as goal
-
-pub returns : goal.returns
-returns c = with_one c.args.past c.push.new.self c.args.statement c.in_ok-push.ensures.ok

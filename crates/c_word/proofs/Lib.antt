@@ -1,0 +1,4 @@
+mod Tables
+mod Rows
+mod Interfaces
+mod Joins

@@ -1,0 +1,246 @@
+-- The inputs at the start of a program, and the stores of the outputs at its end.
+use Rattle.std.proofs.Common.{◌≡◌, ℕ, suc, ◌+◌, ◌-◌, ◌^◌, ◌<◌, ◌≤◌, Bool, true, false, List, [], ◌∷◌, ◌++◌, length, map, ℤ, pos, negsuc, Some, None, refl, sym, ap, ◌∙◌, subst, arith, append_assoc, append-nil, length-append, if◌then◌else◌, nat_lt, nat_le}
+use Rattle.std.specs.Prelude.{flat_map, slice_get, slice_set, All, unsigned_abs, bytes_eq}
+use Rattle.std.proofs.lemmas.Int.{ints}
+use Rattle.std.proofs.lemmas.List.{map-append}
+use Rattle.std.proofs.lemmas.List.Elements.{All-head, All-tail, All-same}
+use Rattle.mat_ast.specs.declared.tree.Ident.{Ident}
+use Rattle.num_type.specs.declared.container.Container.{Container}
+use Rattle.num_type.specs.declared.container.Container.TheVariants.{I8, I16, I32, I64, U8, U16, U32, U64}
+use Rattle.num_type.specs.Containers.{bits_of, is_signed_container}
+use Rattle.num_type.specs.Types.{NumericType, IsWithin, IsInRange}
+use Rattle.fi_eval.specs.Outcome as got
+use Rattle.fi_eval.specs.Value.{Val, Fi, scalar}
+use Rattle.fi_eval.specs.Meaning as source
+use Rattle.fi_eval.specs.Meaning.{Env, Variables, look_up, is_variable, names_of, bound}
+use Rattle.c_tree.specs.declared.tree.CArray.TheVariants as array
+use Rattle.c_tree.specs.Tree.{Signed, Sta, Store}
+use Rattle.c_tree.specs.Names.{container_for, slot_arrays, input_fronts, output_fronts}
+use Rattle.c_tree.specs.Tokens.{sta_tokens, tokens}
+use Rattle.c_tree.specs.Outcome.{Outcome, Gives, ◌>>=◌, bind, choose, found_at, when◌then◌else◌, UndefinedAt}
+use Rattle.c_tree.specs.Meaning as Meaning
+use Rattle.c_tree.specs.Meaning.{Word, Cells, State, Flow, Went, value, run_block, kept, stored, with_cells, whole_of, then_run, wrapped, fits_signed}
+use Rattle.c_tree.specs.Run.{filled}
+use Rattle.scalar_walk.specs.Walk.{with_type}
+use Rattle.scalar_walk.specs.Lowered.{Spot, Input, Variable, Operand, Names, and_then, inputs_from, outputs_lowered, stores_from, read, real_slots}
+use Rattle.scalar_walk.specs.Correspondence.{arrays_of, AreInputs, AreFilled}
+use Rattle.scalar_walk.proofs.Ranges.{InRange, in_range_cases, pow_mono, no_false, signed_between, widen, between_signed}
+use Rattle.scalar_walk.proofs.Says.{At, word_z, read_says, mod_small}
+use Rattle.scalar_walk.proofs.Makes.{Stands}
+use Rattle.scalar_walk.proofs.Runs.{RunsTo, runs_nothing, runs_both, Sees, fi_of, some_of, some_is}
+use Rattle.scalar_walk.proofs.Blocks.{Covers, any_front, any_behind, sees_assigned}
+
+-- ---- containers
+
+pub container_sign : (s : Bool) (w : ℕ) → is_signed_container (container_for s w) ≡ s
+container_sign true w = by (nat_le w 8) (nat_le w 16) (nat_le w 32)
+  where
+    by : (a b c : Bool) → is_signed_container (if a then I8 else (if b then I16 else (if c then I32 else I64))) ≡ true
+    by true b c = refl
+    by false true c = refl
+    by false false true = refl
+    by false false false = refl
+container_sign false w = by (nat_le w 8) (nat_le w 16) (nat_le w 32)
+  where
+    by : (a b c : Bool) → is_signed_container (if a then U8 else (if b then U16 else (if c then U32 else U64))) ≡ false
+    by true b c = refl
+    by false true c = refl
+    by false false true = refl
+    by false false false = refl
+
+le_of : (m n : ℕ) → nat_le m n ≡ true → m ≤ n
+le_of m n h = grind arith
+
+pub container_bits : (s : Bool) (w : ℕ) → w ≤ 64 → w ≤ bits_of (container_for s w)
+container_bits true w h = by (nat_le w 8) (nat_le w 16) (nat_le w 32) (le_of w 8) (le_of w 16) (le_of w 32)
+  where
+    by : (a b c : Bool) → (a ≡ true → w ≤ 8) → (b ≡ true → w ≤ 16) → (c ≡ true → w ≤ 32) → w ≤ bits_of (if a then I8 else (if b then I16 else (if c then I32 else I64)))
+    by true b c f g k = f refl
+    by false true c f g k = g refl
+    by false false true f g k = k refl
+    by false false false f g k = h
+container_bits false w h = by (nat_le w 8) (nat_le w 16) (nat_le w 32) (le_of w 8) (le_of w 16) (le_of w 32)
+  where
+    by : (a b c : Bool) → (a ≡ true → w ≤ 8) → (b ≡ true → w ≤ 16) → (c ≡ true → w ≤ 32) → w ≤ bits_of (if a then U8 else (if b then U16 else (if c then U32 else U64)))
+    by true b c f g k = f refl
+    by false true c f g k = g refl
+    by false false true f g k = k refl
+    by false false false f g k = h
+
+-- ---- inputs
+
+get_middle : (pre : List Cells) (c : Cells) (rest : List Cells) → slice_get (pre ++ (c ∷ rest)) (length pre) ≡ Some c
+get_middle [] c rest = refl
+get_middle (p ∷ pre) c rest = get_middle pre c rest
+
+-- a list of one
+one_of : {A : Type 0} (xs : List A) → length xs ≡ 1 → (x : A) × (xs ≡ x ∷ [])
+one_of [] h = absurd (omega (arith, h))
+one_of (x ∷ []) h = (x, refl)
+one_of (x ∷ y ∷ xs) h = absurd (omega (arith, h))
+
+sees_input : (names : Names) (vs : Variables) (env : Env) (st : State) (k : ℕ) (pre : List Cells) (name : List ℕ) (t : NumericType) (z : ℤ) (rest : List Cells) → length pre ≡ k → IsWithin t → IsInRange t z → st.inputs ≡ pre ++ (record { container = container_for t.signed t.word; items = z ∷ [] } ∷ rest) → Covers vs (name ∷ []) → Sees names vs env st 0 → Sees (with_type names name (record { spot = Input k; num = t })) vs ((name, fi_of t z) ∷ env) st 0
+sees_input names vs env st k pre name t z rest at within range e covers sees =
+    let c : Cells = record { container = container_for t.signed t.word; items = z ∷ [] } in
+    let here : slice_get st.inputs k ≡ Some c = (λ i. slice_get (e i) (sym at i)) ∙ get_middle pre c rest in
+    let o : Operand = record { spot = Input k; num = t } in
+    let stands : Stands st o z = record { range = in_range_cases t.signed t.word t.fraction z range; limits = within; at = (c, here, refl, container_sign t.signed t.word) } in
+    sees_assigned names vs env st 0 name o z covers stands tt sees
+
+covers_head : (vs : Variables) (name : List ℕ) (names : List (List ℕ)) → Covers vs (name ∷ names) → Covers vs (name ∷ [])
+covers_head vs name names covers n q = covers n (any_front (λ other. bytes_eq other n) (name ∷ []) names q)
+
+covers_tail : (vs : Variables) (name : List ℕ) (names : List (List ℕ)) → Covers vs (name ∷ names) → Covers vs names
+covers_tail vs name names covers n q = covers n (any_behind (λ other. bytes_eq other n) (name ∷ []) names q)
+
+-- the inputs of a call stand in the arrays of the inputs
+pub inputs_see : (is : List Ident) (ts : List NumericType) (vals : List Val) (k : ℕ) (pre : List Cells) (names : Names) (vs : Variables) (env : Env) (st : State) → length pre ≡ k → length is ≡ length ts → AreInputs (real_slots is ts) vals → All IsWithin ts → st.inputs ≡ pre ++ filled (flat_map (slot_arrays input_fronts) (real_slots is ts)) (flat_map arrays_of vals) → Covers vs (names_of is) → Sees names vs env st 0 → (after : Env) × (bound is vals env ≡ Some after) × Sees (inputs_from k is ts names) vs after st 0
+inputs_see [] [] [] k pre names vs env st at same h within e covers sees = (env, refl, sees)
+inputs_see [] [] (v ∷ vals) k pre names vs env st at same h within e covers sees = absurd h
+inputs_see [] (t ∷ ts) vals k pre names vs env st at same h within e covers sees = absurd (omega (arith, same))
+inputs_see (i ∷ is) [] vals k pre names vs env st at same h within e covers sees = absurd (omega (arith, same))
+inputs_see (i ∷ is) (t ∷ ts) [] k pre names vs env st at same h within e covers sees = absurd h
+inputs_see (i ∷ is) (t ∷ ts) (v ∷ vals) k pre names vs env st at same h within e covers sees =
+    let one = one_of h.0.0 h.0.2 in
+    let z : ℤ = one.0 in
+    let v_is : v ≡ fi_of t z = h.0.1 ∙ ap (Fi t None scalar) one.1 in
+    let range : IsInRange t z = All-head (IsInRange t) z [] (All-same (IsInRange t) (z ∷ []) h.0.0 (sym one.1) h.0.3) in
+    let c : Cells = record { container = container_for t.signed t.word; items = z ∷ [] } in
+    let rest : List Cells = filled (flat_map (slot_arrays input_fronts) (real_slots is ts)) (flat_map arrays_of vals) in
+    let here : st.inputs ≡ pre ++ (c ∷ rest) = e ∙ ap (λ u. pre ++ filled (flat_map (slot_arrays input_fronts) (real_slots (i ∷ is) (t ∷ ts))) (flat_map arrays_of (u ∷ vals))) v_is in
+    let next : st.inputs ≡ (pre ++ (c ∷ [])) ++ rest = here ∙ sym (append_assoc pre (c ∷ []) rest) in
+    let k_next : length (pre ++ (c ∷ [])) ≡ suc k = omega (arith, at, length-append pre (c ∷ [])) in
+    let inner = inputs_see is ts vals (suc k) (pre ++ (c ∷ [])) (with_type names i.text (record { spot = Input k; num = t })) vs ((i.text, fi_of t z) ∷ env) st k_next (omega (arith, same)) h.1
+    (All-tail IsWithin t ts within) next (covers_tail vs i.text (names_of is) covers)
+    (sees_input names vs env st k pre i.text t z rest at (All-head IsWithin t ts within) range here (covers_head vs i.text (names_of is) covers) sees) in
+    (inner.0, ap (λ u. bound is vals ((i.text, u) ∷ env)) v_is ∙ inner.1, inner.2)
+
+-- ---- outputs
+
+-- operands hold these integers
+abbrev pub AllStand : State → List Operand → List ℤ → Type 0
+AllStand st [] [] = Unit {0}
+AllStand st (o ∷ os) (z ∷ zs) = Stands st o z × AllStand st os zs
+AllStand st os zs = ⊥
+
+abbrev pub values_of : List Operand → List ℤ → List Val
+values_of (o ∷ os) (z ∷ zs) = fi_of o.num z ∷ values_of os zs
+values_of os zs = []
+
+pub outputs_give : (os : List Ident) (names : Names) (vs : Variables) (env : Env) (st : State) (n : ℕ) (outs : List Operand) → outputs_lowered os names ≡ Some outs → Sees names vs env st n → (zs : List ℤ) × AllStand st outs zs × (source.outputs os env ≡ got.Gives (values_of outs zs)) × (length outs ≡ length os)
+unfolding got.bind got.or_wrong source.output
+outputs_give [] names vs env st n outs h sees =
+    let same : [] ≡ outs = some_is [] outs h in
+    let P : List Operand → Type 0 = λ l. (zs : List ℤ) × AllStand st l zs × (source.outputs [] env ≡ got.Gives (values_of l zs)) × (length l ≡ 0) in
+    subst P same ([], tt, refl, refl)
+outputs_give (o ∷ os) names vs env st n outs h sees =
+    let x = some_of (names o.text) (λ x. and_then (outputs_lowered os names) (λ xs. Some (x ∷ xs))) outs h in
+    let xs = some_of (outputs_lowered os names) (λ xs. Some (x.0 ∷ xs)) outs x.2 in
+    let same : x.0 ∷ xs.0 ≡ outs = some_is (x.0 ∷ xs.0) outs xs.2 in
+    let f = sees o.text x.0 x.1 in
+    let rec = outputs_give os names vs env st n xs.0 xs.1 sees in
+    let P : List Operand → Type 0 = λ l. (zs : List ℤ) × AllStand st l zs × (source.outputs (o ∷ os) env ≡ got.Gives (values_of l zs)) × (length l ≡ length (o ∷ os)) in
+    let gives : source.outputs (o ∷ os) env ≡ got.Gives (values_of (x.0 ∷ xs.0) (f.0 ∷ rec.0)) =
+    ap (λ l. got.bind (got.or_wrong o.place l) (λ v. got.bind (source.output o.place v) (λ w. got.bind (source.outputs os env) (λ ws. got.Gives (w ∷ ws))))) f.1
+    ∙ ap (λ g. got.bind g (λ ws. got.Gives (fi_of x.0.num f.0 ∷ ws))) rec.2 in
+    subst P same (f.0 ∷ rec.0, (f.2, rec.1), gives, omega (arith, rec.3))
+
+unwrapped : (w : ℕ) (z : ℤ) (bits : ℕ) → w ≤ bits → InRange false w z → pos (wrapped bits (pos (unsigned_abs z))) ≡ z
+unwrapped w (pos n) bits le q = let m = pow_mono w bits le in let small : n < 2 ^ bits = omega (arith, m, q) in ap pos (mod_small n (2 ^ bits) small)
+unwrapped w (negsuc n) bits le q = absurd (no_false q.0)
+
+-- the value in the range of a container stays as it is
+kept_same : (at : ℕ) (s : Bool) (w : ℕ) (z : ℤ) → w ≤ 64 → InRange s w z → kept at (container_for s w) (whole_of (word_z s z)) ≡ Gives z
+unfolding kept choose
+kept_same at s w z lim r = by s r (container_sign s w) (container_bits s w lim)
+  where
+    in_bits : (bits : ℕ) (z : ℤ) → w ≤ bits → InRange true w z → fits_signed bits z ≡ true
+    in_bits bits z le q = fits bits z (between_signed bits z (widen (w - 1) (bits - 1) z (omega (arith, le)) (signed_between w z q)))
+      where
+        fits : (bits : ℕ) (z : ℤ) → InRange true bits z → fits_signed bits z ≡ true
+        fits bits (pos n) h = grind (arith, ints)
+        fits bits (negsuc n) h = let k = h.1 in grind (arith, ints)
+
+    by : (s : Bool) → InRange s w z → is_signed_container (container_for s w) ≡ s → w ≤ bits_of (container_for s w) → kept at (container_for s w) (whole_of (word_z s z)) ≡ Gives z
+    by true q sign le =
+        ap (λ b. when b then (when fits_signed (bits_of (container_for true w)) z then Gives z else UndefinedAt at) else Gives (pos (wrapped (bits_of (container_for true w)) z))) sign
+        ∙ ap (λ b. when b then Gives z else UndefinedAt at) (in_bits (bits_of (container_for true w)) z le q)
+    by false q sign le =
+        ap (λ b. when b then (when fits_signed (bits_of (container_for false w)) (pos (unsigned_abs z)) then Gives (pos (unsigned_abs z)) else UndefinedAt at) else Gives (pos (wrapped (bits_of (container_for false w)) (pos (unsigned_abs z))))) sign
+        ∙ ap Gives (unwrapped w z (bits_of (container_for false w)) le q)
+
+set_middle : (pre : List Cells) (c d : Cells) (rest : List Cells) → slice_set (pre ++ (c ∷ rest)) (length pre) d ≡ pre ++ (d ∷ rest)
+set_middle [] c d rest = refl
+set_middle (p ∷ pre) c d rest = ap (λ l. p ∷ l) (set_middle pre c d rest)
+
+-- a store into the one element of an output
+store_runs : (st : State) (k : ℕ) (o : Operand) (z : ℤ) (c : Cells) (old : ℤ) → Stands st o z → slice_get st.outputs k ≡ Some c → c.container ≡ container_for o.num.signed o.num.word → c.items ≡ old ∷ [] → RunsTo (Store (array.Output k) (Signed 0) (read o.spot) ∷ []) st (with_cells st (array.Output k) (record c { items = z ∷ [] }))
+unfolding bind found_at stored choose
+store_runs st k o z c old h here same one = record {
+  does = λ rest n at.
+      let s : Sta = Store (array.Output k) (Signed 0) (read o.spot) in
+      let w = word_z o.num.signed z in
+      let lim : o.num.word ≤ 64 = h.limits.bits in
+      let put : ℤ → Outcome Flow = λ y. stored (at + 1) st (array.Output k) c y (Meaning.Int64 (pos 0)) in
+      let last : Outcome Flow → Outcome Flow = λ f. f >>= (λ flow. then_run flow (λ t. run_block rest n t (at + sta_tokens s))) in
+      let keep : kept (at + 4 + tokens (Signed 0)) c.container (whole_of w) ≡ Gives z =
+      ap (λ d. kept (at + 4 + tokens (Signed 0)) d (whole_of w)) same ∙ kept_same (at + 4 + tokens (Signed 0)) o.num.signed o.num.word z lim h.range in (
+        at + sta_tokens s,
+        ap (λ g. last (found_at at g >>= (λ c. value (read o.spot) st (at + 7 + tokens (Signed 0)) >>= (λ w. kept (at + 4 + tokens (Signed 0)) c.container (whole_of w) >>= (λ y. value (Signed 0) st (at + 2) >>= (λ sub. stored (at + 1) st (array.Output k) c y sub)))))) here
+            ∙ ap (λ g. last (g >>= (λ w. kept (at + 4 + tokens (Signed 0)) c.container (whole_of w) >>= put))) ((read_says o.spot o.num.signed z st h.at).says (at + 7 + tokens (Signed 0)))
+            ∙ ap (λ g. last (g >>= put)) keep
+            ∙ ap (λ l. last (when nat_lt 0 (length l) then Gives (Went (with_cells st (array.Output k) (record c { items = slice_set l 0 z }))) else UndefinedAt (at + 1))) one,
+      );
+}
+
+stands_stored : (st : State) (k : ℕ) (c : Cells) (o : Operand) (z : ℤ) → Stands st o z → Stands (with_cells st (array.Output k) c) o z
+stands_stored st k c o z h = record { range = h.range; limits = h.limits; at = by o.spot h.at }
+  where
+    by : (spot : Spot) → At st spot o.num.signed z → At (with_cells st (array.Output k) c) spot o.num.signed z
+    by (Input j) a = a
+    by (Variable j) a = a
+
+all_stored : (st : State) (k : ℕ) (c : Cells) (os : List Operand) (zs : List ℤ) → AllStand st os zs → AllStand (with_cells st (array.Output k) c) os zs
+all_stored st k c [] [] h = tt
+all_stored st k c [] (z ∷ zs) h = absurd h
+all_stored st k c (o ∷ os) [] h = absurd h
+all_stored st k c (o ∷ os) (z ∷ zs) h = (stands_stored st k c o z h.0, all_stored st k c os zs h.1)
+
+abbrev pub nums_of : List Operand → List NumericType
+nums_of = map (λ o. o.num)
+
+abbrev pub items_in : List Cells → List (List ℤ)
+items_in = map (λ c. c.items)
+
+pub record Stored (os : List Ident) (outs : List Operand) (zs : List ℤ) (k : ℕ) (pre : List Cells) (st : State) : Type 0 where
+  pub after : State
+  pub does : RunsTo (stores_from k outs) st after
+  pub holds : items_in after.outputs ≡ items_in pre ++ map (λ z. z ∷ []) zs
+
+-- the stores of the outputs
+pub stores_run : (os : List Ident) (outs : List Operand) (zs : List ℤ) (k : ℕ) (pre : List Cells) (olds : List (List ℤ)) (st : State) → length pre ≡ k → length outs ≡ length os → AllStand st outs zs → AreFilled (flat_map (slot_arrays output_fronts) (real_slots os (nums_of outs))) olds → st.outputs ≡ pre ++ filled (flat_map (slot_arrays output_fronts) (real_slots os (nums_of outs))) olds → Stored os outs zs k pre st
+stores_run [] [] [] k pre [] st at same h fill e = record { after = st; does = runs_nothing st; holds = ap items_in (e ∙ append-nil pre) ∙ sym (append-nil (items_in pre)) }
+stores_run [] [] [] k pre (xs ∷ olds) st at same h fill e = absurd fill
+stores_run [] [] (z ∷ zs) k pre olds st at same h fill e = absurd h
+stores_run [] (o ∷ outs) zs k pre olds st at same h fill e = absurd (omega (arith, same))
+stores_run (i ∷ os) [] zs k pre olds st at same h fill e = absurd (omega (arith, same))
+stores_run (i ∷ os) (o ∷ outs) [] k pre olds st at same h fill e = absurd h
+stores_run (i ∷ os) (o ∷ outs) (z ∷ zs) k pre [] st at same h fill e = absurd fill
+stores_run (i ∷ os) (o ∷ outs) (z ∷ zs) k pre (xs ∷ olds) st at same h fill e =
+    let one = one_of xs fill.0 in
+    let box : Container = container_for o.num.signed o.num.word in
+    let c : Cells = record { container = box; items = xs } in
+    let d : Cells = record { container = box; items = z ∷ [] } in
+    let rest : List Cells = filled (flat_map (slot_arrays output_fronts) (real_slots os (nums_of outs))) olds in
+    let here : slice_get st.outputs k ≡ Some c = (λ i. slice_get (e i) (sym at i)) ∙ get_middle pre c rest in
+    let mid : State = with_cells st (array.Output k) d in
+    let step = store_runs st k o z c one.0 h.0 here refl one.1 in
+    let e_mid : mid.outputs ≡ (pre ++ (d ∷ [])) ++ rest =
+    (λ i. slice_set (e i) (sym at i) d) ∙ set_middle pre c d rest ∙ sym (append_assoc pre (d ∷ []) rest) in
+    let k_next : length (pre ++ (d ∷ [])) ≡ suc k = omega (arith, at, length-append pre (d ∷ [])) in
+    let rec = stores_run os outs zs (suc k) (pre ++ (d ∷ [])) olds mid k_next (omega (arith, same)) (all_stored st k d outs zs h.1) fill.1 e_mid in
+    record {
+      after = rec.after;
+      does = runs_both (Store (array.Output k) (Signed 0) (read o.spot) ∷ []) (stores_from (suc k) outs) st mid rec.after step rec.does;
+      holds = rec.holds ∙ ap (λ l. l ++ map (λ z. z ∷ []) zs) (map-append (λ c. c.items) pre (d ∷ [])) ∙ append_assoc (items_in pre) ((z ∷ []) ∷ []) (map (λ z. z ∷ []) zs);
+    }

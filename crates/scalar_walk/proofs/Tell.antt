@@ -1,0 +1,97 @@
+-- Answers of the code, and what is told.
+use Rattle.std.proofs.Common.{◌≡◌, ℕ, List, sym, ap, subst, refl, ◌∙◌, Err}
+use Rattle.std.specs.Prelude.{Result}
+use Rattle.fic_base.specs.declared.code.Code.{Code}
+use Rattle.fic_base.specs.declared.code.Code.TheVariants as code
+use Rattle.mat_ast.specs.declared.tree.BinOp.{BinOp}
+use Rattle.mat_ast.specs.declared.tree.BinOp.TheVariants as bin
+use Rattle.fic_base.specs.declared.place.Place.{Place}
+use Rattle.fic_base.specs.declared.refusal.Refusal.{Refusal}
+use Rattle.num_type.specs.declared.memory.Stop.{Stop}
+use Rattle.num_type.specs.declared.memory.Stop.TheVariants as stop
+use Rattle.num_type.specs.Types.{NumericType}
+use Rattle.fi_math.specs.declared.fimath.Fimath.{Fimath}
+use Rattle.fi_math.specs.Made.{Made}
+use Rattle.fi_math.specs.Rules.{product_made, add_made}
+use Rattle.fi_math.specs.Govern.{usual}
+use Rattle.scalar_walk.specs.Walk.{Scope, Task, Later, task_of, Sum, Product, counted, within, operator_typed}
+use Rattle.scalar_walk.specs.Told.{Told, Passes, Refuses, ◌>>=◌, bind}
+use Rattle.scalar_walk.specs.View.{Tells, StopTells, IsStop}
+
+-- a refusal of these three parts
+same_refusal : {A : Type 0} (told : Told A) (c d : Code) (p q : Place) (s t : List ℕ) → c ≡ d → p ≡ q → s ≡ t → told ≡ Refuses d q t → told ≡ Refuses c p s
+same_refusal told c d p q s t e f g h = h ∙ sym (λ i. Refuses (e i) (f i) (g i))
+
+-- a stop of the refusal that is told
+pub is_told : {A : Type 0} (s : Stop Refusal) (code : Code) (at : Place) (shown : List ℕ) (told : Told A) → IsStop s code at shown → told ≡ Refuses code at shown → StopTells s told
+is_told stop.Memory code at shown told h e = tt
+is_told (stop.Refused r) code at shown told h e = same_refusal told r.code code r.place at r.shown shown h.0 h.1 h.2 e
+
+-- the answer that is this stop
+pub err_tells : {R A : Type 0} (s : Stop Refusal) (view : R → A) (told : Told A) → StopTells s told → Tells {R = R} (Err s) view told
+err_tells stop.Memory view told h = h
+err_tells (stop.Refused r) view told h = h
+
+-- the answer that is a stop of the refusal that is told
+pub stop_tells : {R A : Type 0} (s : Stop Refusal) (view : R → A) (told : Told A) (code : Code) (at : Place) (shown : List ℕ) → IsStop s code at shown → told ≡ Refuses code at shown → Tells {R = R} (Err s) view told
+stop_tells s view told code at shown h e = err_tells s view told (is_told s code at shown told h e)
+
+-- a refused part refuses the whole
+pub part_tells : {R S A B : Type 0} (s : Stop Refusal) (view : R → A) (whole : S → B) (told : Told A) (next : A → Told B) → Tells {R = R} (Err s) view told → Tells {R = S} (Err s) whole (told >>= next)
+unfolding bind
+part_tells stop.Memory view whole told next h = tt
+part_tells (stop.Refused r) view whole told next h = ap (λ t. bind t next) h
+
+-- behind a part that passes comes what is next
+pub passed : {A B : Type 0} (told : Told A) (x : A) (next : A → Told B) → told ≡ Passes x → (told >>= next) ≡ next x
+unfolding bind
+passed told x next h = ap (λ t. bind t next) h
+
+pub next_tells : {S A B : Type 0} (r : Result S (Stop Refusal)) (whole : S → B) (told : Told A) (x : A) (next : A → Told B) → told ≡ Passes x → Tells r whole (next x) → Tells r whole (told >>= next)
+next_tells r whole told x next h t = subst (Tells r whole) (sym (passed told x next h)) t
+
+-- a sum that is counted and has a type
+pub sum_told : (sc : Scope) (at : Place) (x y : NumericType) (nodes counts : ℕ) (t : NumericType) (m : Fimath) (made : Made) → counted at nodes ≡ Passes counts → within at made ≡ Passes t → made ≡ add_made m x y → m ≡ usual → operator_typed sc at Sum x y nodes ≡ Passes (t, counts)
+unfolding bind operator_typed
+sum_told sc at x y nodes counts t m made c w e u =
+    ap (λ g. bind g (λ n. bind (within at (add_made usual x y)) (λ s. Passes (s, n)))) c
+    ∙ ap (λ g. bind (within at (add_made g x y)) (λ s. Passes (s, counts))) (sym u)
+    ∙ ap (λ g. bind (within at g) (λ s. Passes (s, counts))) (sym e)
+    ∙ ap (λ g. bind g (λ s. Passes (s, counts))) w
+
+-- a product that is counted and has a type
+pub product_told : (sc : Scope) (at : Place) (x y : NumericType) (nodes counts : ℕ) (t : NumericType) (m : Fimath) (made : Made) → counted at nodes ≡ Passes counts → within at made ≡ Passes t → made ≡ product_made m x y → m ≡ usual → operator_typed sc at Product x y nodes ≡ Passes (t, counts)
+unfolding bind operator_typed
+product_told sc at x y nodes counts t m made c w e u =
+    ap (λ g. bind g (λ n. bind (within at (product_made usual x y)) (λ s. Passes (s, n)))) c
+    ∙ ap (λ g. bind (within at (product_made g x y)) (λ s. Passes (s, counts))) (sym u)
+    ∙ ap (λ g. bind (within at g) (λ s. Passes (s, counts))) (sym e)
+    ∙ ap (λ g. bind g (λ s. Passes (s, counts))) w
+
+-- an operator that is neither a sum nor a product nor a division
+pub later : (op : BinOp) → (op ≡ bin.Add → ⊥) → (op ≡ bin.Mul → ⊥) → (op ≡ bin.Div → ⊥) → (op ≡ bin.ElemDiv → ⊥) → (op ≡ bin.LeftDiv → ⊥) → (op ≡ bin.ElemLeftDiv → ⊥) → task_of op ≡ Later
+later bin.Add a m d e l f = absurd (a refl)
+later bin.Mul a m d e l f = absurd (m refl)
+later bin.Div a m d e l f = absurd (d refl)
+later bin.ElemDiv a m d e l f = absurd (e refl)
+later bin.LeftDiv a m d e l f = absurd (l refl)
+later bin.ElemLeftDiv a m d e l f = absurd (f refl)
+later bin.OrOr a m d e l f = refl
+later bin.AndAnd a m d e l f = refl
+later bin.Or a m d e l f = refl
+later bin.And a m d e l f = refl
+later bin.Eq a m d e l f = refl
+later bin.Ne a m d e l f = refl
+later bin.Lt a m d e l f = refl
+later bin.Le a m d e l f = refl
+later bin.Gt a m d e l f = refl
+later bin.Ge a m d e l f = refl
+later bin.Sub a m d e l f = refl
+later bin.ElemMul a m d e l f = refl
+later bin.Pow a m d e l f = refl
+later bin.ElemPow a m d e l f = refl
+
+-- such an operator is refused
+pub later_told : (sc : Scope) (at : Place) (task : Task) (x y : NumericType) (nodes : ℕ) → task ≡ Later → operator_typed sc at task x y nodes ≡ Refuses code.Unsupported at (sc.shown at)
+unfolding operator_typed
+later_told sc at task x y nodes h = ap (λ k. operator_typed sc at k x y nodes) h

@@ -1,0 +1,45 @@
+use Rattle.std.proofs.Common.{None, Err, sym, ap, ◌∙◌}
+use Rattle.std.proofs.lemmas.Result.{err_from_is_err_and}
+use Rattle.num_type.specs.View.{type_of}
+use Rattle.mat_ast.specs.View.{expr_view}
+use Rattle.scalar_walk.specs.Told.{Passes}
+use Rattle.scalar_walk.specs.Lowered.{lowered}
+use Rattle.scalar_walk.specs.Walk.{Types, typed, assigned, with_type}
+use Rattle.scalar_walk.specs.View.{names_view, types_view, scope_view, emitted_view, operand_view, low_view, typed_view, walked_view}
+use Rattle.scalar_walk.proofs.Lows.{assign_low}
+use Rattle.scalar_walk.proofs.Tell.{part_tells, next_tells, passed, err_tells}
+use Rattle.scalar_walk.proofs.Walks.{tells_stop}
+use Rattle.scalar_walk.proofs.Outputs.{types_set}
+use Rattle.scalar_walk.proofs.statements.lower_assign.Goals as goal
+
+pub returns-clause-low : goal.returns-clause-low
+returns-clause-low c =
+    assign_low (lowered (expr_view c.args.value.now) (names_view c.args.names.now) (emitted_view c.args.out.now)) (low_view c.in_ok-operand.operand c.lower_expr.new.out)
+    (names_view c.args.names.now) (names_view c.set.new.self) c.args.name.now.text c.as_bytes.result.now c.in_ok-operand.ensures.low c.in_ok-set.ensures c.as_bytes.ensures
+
+pub returns-in_err-operand-clause-told : goal.returns-in_err-operand-clause-told
+returns-in_err-operand-clause-told c =
+    let p = err_from_is_err_and c.from_residual.result c.from_residual.ensures.1 in
+    let types = types_view c.args.names.now in
+    rw (p.1, p.2) (part_tells c.in_err-operand.field-0.0 (typed_view c.lower_expr.new.out.nodes) (λ u. walked_view c.args.names.now c.lower_expr.new.out)
+    (typed (expr_view c.args.value.now) (scope_view c.args.scope.now) types None c.args.out.now.nodes) (λ r. assigned c.args.name.now types r (types c.args.name.now.text)) c.in_err-operand.ensures.told)
+
+pub returns-in_err-keep_type-clause-told : goal.returns-in_err-keep_type-clause-told
+returns-in_err-keep_type-clause-told c =
+    let p = err_from_is_err_and c.from_residual-in_err-keep_type.result c.from_residual-in_err-keep_type.ensures.1 in
+    let types : Types = types_view c.args.names.now in
+    let x = typed_view c.lower_expr.new.out.nodes c.in_ok-operand.operand in
+    let s = c.in_err-keep_type.field-0.0 in
+    let told = assigned c.args.name.now types x (types c.args.name.now.text) in
+    rw (p.1, p.2) (next_tells {S = Unit {0}} (Err s) (λ u. walked_view c.args.names.now c.lower_expr.new.out)
+    (typed (expr_view c.args.value.now) (scope_view c.args.scope.now) types None c.args.out.now.nodes) x (λ r. assigned c.args.name.now types r (types c.args.name.now.text)) c.in_ok-operand.ensures.told
+    (err_tells s (λ u. walked_view c.args.names.now c.lower_expr.new.out) told (tells_stop s _ told (c.in_err-keep_type.ensures.told c.lower_expr.new.out.nodes))))
+
+pub returns-clause-told : goal.returns-clause-told
+returns-clause-told c =
+    let types : Types = types_view c.args.names.now in
+    let x = typed_view c.lower_expr.new.out.nodes c.in_ok-operand.operand in
+    let set = types_set (names_view c.args.names.now) (names_view c.set.new.self) c.as_bytes.result.now (operand_view c.in_ok-operand.operand) c.in_ok-set.ensures in
+    passed (typed (expr_view c.args.value.now) (scope_view c.args.scope.now) types None c.args.out.now.nodes) x (λ r. assigned c.args.name.now types r (types c.args.name.now.text)) c.in_ok-operand.ensures.told
+    ∙ c.in_ok-keep_type.ensures.told c.lower_expr.new.out.nodes
+    ∙ ap (λ ts. Passes (record { types = ts; nodes = c.lower_expr.new.out.nodes })) (ap (λ b. with_type types b (type_of c.in_ok-operand.operand.num)) (sym c.as_bytes.ensures) ∙ sym set)

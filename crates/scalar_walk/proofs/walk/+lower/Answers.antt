@@ -1,0 +1,270 @@
+use Rattle.std.proofs.Common.{◌≡◌, ◌+◌, map, drop, Some, Err, refl, sym, ap, subst, ◌∙◌}
+use Rattle.std.proofs.lemmas.Result.{err_from_is_err_and}
+use Rattle.fic_base.specs.declared.code.Code.TheVariants as code
+use Rattle.mat_ast.specs.View.{expr_view, args_view, row_of, row_view, rows_view}
+use Rattle.mat_ast.specs.declared.tree.Expr.{out-Expr}
+use Rattle.mat_ast.specs.declared.tree.ExprKind.TheVariants as kind
+use Rattle.mat_ast.specs.Tree as ast
+use Rattle.scalar_walk.specs.Lowered.{lowered}
+use Rattle.scalar_walk.specs.Told.{Passes, ◌>>=◌}
+use Rattle.scalar_walk.specs.Walk.{typed, args_typed, row_typed, rows_typed, apply_typed, inside, counted, unbuilt}
+use Rattle.scalar_walk.specs.View.{Tells, StopTells, names_view, emitted_view, low_view, scope_view, types_view, around_view, typed_view}
+use Rattle.scalar_walk.proofs.Lows.{binary_low}
+use Rattle.scalar_walk.proofs.Views.{binary_view, cells_view}
+use Rattle.scalar_walk.proofs.Steps.{left_at, left_none}
+use Rattle.scalar_walk.proofs.Tell.{is_told, part_tells, next_tells, passed}
+use Rattle.scalar_walk.proofs.Walks.{item_stop, item_told, part_stops, stops_behind, tells_stop, args_step, args_stop, binary_first, binary_second, binary_last, range_first, range_last, range_step, range_by_last}
+use Rattle.scalar_walk.proofs.walk.+lower.Goals as goal
+
+pub lower_expr-returns-in_err-x-in-Binary-clause-told : goal.lower_expr-returns-in_err-x-in-Binary-clause-told
+lower_expr-returns-in_err-x-in-Binary-clause-told t c =
+    let p = err_from_is_err_and c.from_residual.result c.from_residual.ensures.1 in
+    let at = (out-Expr c.args.e.now).place in
+    let view : expr_view c.args.e.now ≡ ast.Binary at c.in-Binary.op (expr_view c.get.result.now) (expr_view c.in-Binary.b) = binary_view c.args.e.now c.in-Binary.op c.in-Binary.a c.in-Binary.b c.in-Binary.is ∙ ap (λ m. ast.Binary at c.in-Binary.op (expr_view m) (expr_view c.in-Binary.b)) (sym c.get.ensures) in
+    rw (p.1, p.2) (binary_first c.in_err-x-in-Binary.field-0.0 (typed_view c.lower_expr.new.out.nodes) (typed_view c.lower_expr.new.out.nodes) (expr_view c.args.e.now) at c.in-Binary.op (expr_view c.get.result.now) (expr_view c.in-Binary.b)
+    (scope_view c.args.scope.now) (types_view c.args.names.now) (around_view c.args.around) c.args.out.now.nodes view c.in_err-x-in-Binary.ensures.told)
+
+pub lower_expr-returns-in_err-y-in-Binary-clause-told : goal.lower_expr-returns-in_err-y-in-Binary-clause-told
+lower_expr-returns-in_err-y-in-Binary-clause-told t c =
+    let p = err_from_is_err_and c.from_residual-in_err-y-in-Binary.result c.from_residual-in_err-y-in-Binary.ensures.1 in
+    let at = (out-Expr c.args.e.now).place in
+    let view : expr_view c.args.e.now ≡ ast.Binary at c.in-Binary.op (expr_view c.get.result.now) (expr_view c.get-in-Binary.result.now) =
+    binary_view c.args.e.now c.in-Binary.op c.in-Binary.a c.in-Binary.b c.in-Binary.is ∙ (λ i. ast.Binary at c.in-Binary.op (expr_view (sym c.get.ensures i)) (expr_view (sym c.get-in-Binary.ensures i))) in
+    rw (p.1, p.2) (binary_second c.in_err-y-in-Binary.field-0.0 (typed_view c.lower_expr-in-Binary.new.out.nodes) (typed_view c.lower_expr-in-Binary.new.out.nodes) (expr_view c.args.e.now) at c.in-Binary.op (expr_view c.get.result.now) (expr_view c.get-in-Binary.result.now)
+    (scope_view c.args.scope.now) (types_view c.args.names.now) (around_view c.args.around) c.args.out.now.nodes (typed_view c.lower_expr.new.out.nodes c.in_ok-x-in-Binary.x) view c.in_ok-x-in-Binary.ensures.told c.in_err-y-in-Binary.ensures.told)
+
+pub lower_expr-returns-in_ok-y-in-Binary-clause-told : goal.lower_expr-returns-in_ok-y-in-Binary-clause-told
+lower_expr-returns-in_ok-y-in-Binary-clause-told t c =
+    let at = (out-Expr c.args.e.now).place in
+    let view : expr_view c.args.e.now ≡ ast.Binary at c.in-Binary.op (expr_view c.get.result.now) (expr_view c.get-in-Binary.result.now) =
+    binary_view c.args.e.now c.in-Binary.op c.in-Binary.a c.in-Binary.b c.in-Binary.is ∙ (λ i. ast.Binary at c.in-Binary.op (expr_view (sym c.get.ensures i)) (expr_view (sym c.get-in-Binary.ensures i))) in
+    binary_last c.lower_operator.result (typed_view c.lower_operator.new.out.nodes) (expr_view c.args.e.now) at c.in-Binary.op (expr_view c.get.result.now) (expr_view c.get-in-Binary.result.now)
+    (scope_view c.args.scope.now) (types_view c.args.names.now) (around_view c.args.around) c.args.out.now.nodes (typed_view c.lower_expr.new.out.nodes c.in_ok-x-in-Binary.x)
+    (typed_view c.lower_expr-in-Binary.new.out.nodes c.in_ok-y-in-Binary.y) view c.in_ok-x-in-Binary.ensures.told c.in_ok-y-in-Binary.ensures.told c.lower_operator.ensures.told
+
+pub lower_expr-returns-in_ok-y-in-Binary-clause-low : goal.lower_expr-returns-in_ok-y-in-Binary-clause-low
+lower_expr-returns-in_ok-y-in-Binary-clause-low t c =
+    let at = (out-Expr c.args.e.now).place in
+    let view : expr_view c.args.e.now ≡ ast.Binary at c.in-Binary.op (expr_view c.in-Binary.a) (expr_view c.in-Binary.b) = binary_view c.args.e.now c.in-Binary.op c.in-Binary.a c.in-Binary.b c.in-Binary.is in
+    let names = names_view c.args.names.now in
+    binary_low (expr_view c.args.e.now) at c.in-Binary.op (expr_view c.in-Binary.a) (expr_view c.in-Binary.b) names (emitted_view c.args.out.now)
+    (low_view c.in_ok-x-in-Binary.x c.lower_expr.new.out) (low_view c.in_ok-y-in-Binary.y c.lower_expr-in-Binary.new.out)
+    c.lower_operator.result c.lower_operator.new.out view
+    (ap (λ m. lowered (expr_view m) names (emitted_view c.args.out.now)) (sym c.get.ensures) ∙ c.in_ok-x-in-Binary.ensures.low)
+    (ap (λ m. lowered (expr_view m) names (emitted_view c.lower_expr.new.out)) (sym c.get-in-Binary.ensures) ∙ c.in_ok-y-in-Binary.ensures.low)
+    c.lower_operator.ensures.low
+
+pub lower_expr-returns-in_err-lower_expr-in-Range-clause-told : goal.lower_expr-returns-in_err-lower_expr-in-Range-clause-told
+lower_expr-returns-in_err-lower_expr-in-Range-clause-told t c =
+    let p = err_from_is_err_and c.from_residual-in_err-lower_expr-in-Range.result c.from_residual-in_err-lower_expr-in-Range.ensures.1 in
+    let is = c.in-Range.is ∙ ap (λ m. kind.Range m c.in-Range.step c.in-Range.last) (sym c.get-in-Range.ensures) in
+    rw (p.1, p.2) (range_first c.in_err-lower_expr-in-Range.field-0.0 (typed_view c.lower_expr-in-Range.new.out.nodes) (typed_view c.lower_expr-in-Range.new.out.nodes) c.args.e.now c.get-in-Range.result.now c.in-Range.step c.in-Range.last
+    (scope_view c.args.scope.now) (types_view c.args.names.now) (around_view c.args.around) c.args.out.now.nodes is c.in_err-lower_expr-in-Range.ensures.told)
+
+pub lower_expr-returns-in-None-clause-told : goal.lower_expr-returns-in-None-clause-told
+lower_expr-returns-in-None-clause-told t c =
+    let is = c.in-Range.is ∙ (λ i. kind.Range (sym c.get-in-Range.ensures i) c.in-Range.step (sym c.get-in-None.ensures i)) in
+    range_last c.refuse_part-in-None.result (typed_view c.refuse_part-in-None.new.out.nodes) c.args.e.now c.get-in-Range.result.now c.in-Range.step c.get-in-None.result.now
+    (scope_view c.args.scope.now) (types_view c.args.names.now) (around_view c.args.around) c.args.out.now.nodes (typed_view c.lower_expr-in-Range.new.out.nodes c.in_ok-lower_expr-in-Range.field-0)
+    is c.in-None.is c.in_ok-lower_expr-in-Range.ensures.told c.refuse_part-in-None.ensures.told
+
+pub lower_expr-returns-in_err-lower_expr-in-Some-clause-told : goal.lower_expr-returns-in_err-lower_expr-in-Some-clause-told
+lower_expr-returns-in_err-lower_expr-in-Some-clause-told t c =
+    let p = err_from_is_err_and c.from_residual-in_err-lower_expr-in-Some.result c.from_residual-in_err-lower_expr-in-Some.ensures.1 in
+    let is = c.in-Range.is ∙ ap (λ m. kind.Range m c.in-Range.step c.in-Range.last) (sym c.get-in-Range.ensures) in
+    let some = c.in-Some.is ∙ ap (λ m. Some m) (sym c.get-in-Some.ensures) in
+    rw (p.1, p.2) (range_step c.in_err-lower_expr-in-Some.field-0.0 (typed_view c.lower_expr-in-Some.new.out.nodes) (typed_view c.lower_expr-in-Some.new.out.nodes) c.args.e.now c.get-in-Range.result.now c.in-Range.step c.get-in-Some.result.now c.in-Range.last
+    (scope_view c.args.scope.now) (types_view c.args.names.now) (around_view c.args.around) c.args.out.now.nodes (typed_view c.lower_expr-in-Range.new.out.nodes c.in_ok-lower_expr-in-Range.field-0)
+    is some c.in_ok-lower_expr-in-Range.ensures.told c.in_err-lower_expr-in-Some.ensures.told)
+
+pub lower_expr-returns-in_ok-lower_expr-in-Some-clause-told : goal.lower_expr-returns-in_ok-lower_expr-in-Some-clause-told
+lower_expr-returns-in_ok-lower_expr-in-Some-clause-told t c =
+    let is = c.in-Range.is ∙ (λ i. kind.Range (sym c.get-in-Range.ensures i) c.in-Range.step (sym c.get-in-Some-2.ensures i)) in
+    let some = c.in-Some.is ∙ ap (λ m. Some m) (sym c.get-in-Some.ensures) in
+    range_by_last c.refuse_part-in-Some.result (typed_view c.refuse_part-in-Some.new.out.nodes) c.args.e.now c.get-in-Range.result.now c.in-Range.step c.get-in-Some.result.now c.get-in-Some-2.result.now
+    (scope_view c.args.scope.now) (types_view c.args.names.now) (around_view c.args.around) c.args.out.now.nodes (typed_view c.lower_expr-in-Range.new.out.nodes c.in_ok-lower_expr-in-Range.field-0)
+    (typed_view c.lower_expr-in-Some.new.out.nodes c.in_ok-lower_expr-in-Some.field-0)
+    is some c.in_ok-lower_expr-in-Range.ensures.told c.in_ok-lower_expr-in-Some.ensures.told c.refuse_part-in-Some.ensures.told
+
+pub lower_paren-returns-in_err-x-clause-told : goal.lower_paren-returns-in_err-x-clause-told
+lower_paren-returns-in_err-x-clause-told t c =
+    let p = err_from_is_err_and c.from_residual.result c.from_residual.ensures.1 in
+    rw (p.1, p.2) (part_tells c.in_err-x.field-0.0 (typed_view c.lower_expr.new.out.nodes) (typed_view c.lower_expr.new.out.nodes)
+    (typed (expr_view c.args.part.now) (scope_view c.args.scope.now) (types_view c.args.names.now) (around_view c.args.around) c.args.out.now.nodes)
+    (λ r. counted c.args.at r.1 >>= (λ m. Passes (r.0, m))) c.in_err-x.ensures.told)
+
+pub lower_paren-returns-in_err-count-clause-told : goal.lower_paren-returns-in_err-count-clause-told
+lower_paren-returns-in_err-count-clause-told t c =
+    let p = err_from_is_err_and c.from_residual-in_err-count.result c.from_residual-in_err-count.ensures.1 in
+    let x = typed_view c.lower_expr.new.out.nodes c.in_ok-x.x in
+    rw (p.1, p.2) (next_tells (Err c.in_err-count.field-0.0) (typed_view c.count.new.out.nodes)
+    (typed (expr_view c.args.part.now) (scope_view c.args.scope.now) (types_view c.args.names.now) (around_view c.args.around) c.args.out.now.nodes) x
+    (λ r. counted c.args.at r.1 >>= (λ m. Passes (r.0, m))) c.in_ok-x.ensures.told
+    (part_tells c.in_err-count.field-0.0 (λ u. c.count.new.out.nodes) (typed_view c.count.new.out.nodes) (counted c.args.at x.1) (λ m. Passes (x.0, m)) c.in_err-count.ensures.told))
+
+pub lower_paren-returns-clause-told : goal.lower_paren-returns-clause-told
+lower_paren-returns-clause-told t c =
+    let x = typed_view c.lower_expr.new.out.nodes c.in_ok-x.x in
+    passed (typed (expr_view c.args.part.now) (scope_view c.args.scope.now) (types_view c.args.names.now) (around_view c.args.around) c.args.out.now.nodes) x
+    (λ r. counted c.args.at r.1 >>= (λ m. Passes (r.0, m))) c.in_ok-x.ensures.told
+    ∙ passed (counted c.args.at x.1) c.count.new.out.nodes (λ m. Passes (x.0, m)) c.in_ok-count.ensures.told
+
+pub refuse_part-returns-in-Ok : goal.refuse_part-returns-in-Ok
+refuse_part-returns-in-Ok t c =
+    let sc = scope_view c.args.scope.now in
+    record {
+      told = stops_behind c.unbuilt.result (typed (expr_view c.args.part.now) sc (types_view c.args.names.now) (around_view c.args.around) c.args.out.now.nodes)
+          (typed_view c.lower_expr.new.out.nodes c.in-Ok.field-0) (λ r. unbuilt sc c.args.at) c.in-Ok.ensures.told
+          (is_told c.unbuilt.result code.Unsupported c.args.at (sc.shown c.args.at) (unbuilt sc c.args.at) c.unbuilt.ensures refl);
+    }
+
+pub refuse_part-returns-in-Err : goal.refuse_part-returns-in-Err
+refuse_part-returns-in-Err t c =
+    let sc = scope_view c.args.scope.now in
+    let told = typed (expr_view c.args.part.now) sc (types_view c.args.names.now) (around_view c.args.around) c.args.out.now.nodes in
+    record { told = part_stops c.in-Err.stop told (λ r. unbuilt sc c.args.at) (tells_stop c.in-Err.stop (typed_view c.lower_expr.new.out.nodes) told c.in-Err.ensures.told) }
+
+pub refuse_rows-returns-in-Ok : goal.refuse_rows-returns-in-Ok
+refuse_rows-returns-in-Ok t c =
+    let sc = scope_view c.args.scope.now in
+    record {
+      told = stops_behind c.unbuilt.result (rows_typed (rows_view c.args.rows.now) sc (types_view c.args.names.now) (around_view c.args.around) c.args.out.now.nodes)
+          c.visit_rows.new.out.nodes (λ r. unbuilt sc c.args.at) c.in-Ok.ensures.told
+          (is_told c.unbuilt.result code.Unsupported c.args.at (sc.shown c.args.at) (unbuilt sc c.args.at) c.unbuilt.ensures refl);
+    }
+
+pub refuse_rows-returns-in-Err : goal.refuse_rows-returns-in-Err
+refuse_rows-returns-in-Err t c =
+    let sc = scope_view c.args.scope.now in
+    let told = rows_typed (rows_view c.args.rows.now) sc (types_view c.args.names.now) (around_view c.args.around) c.args.out.now.nodes in
+    record { told = part_stops c.in-Err.stop told (λ r. unbuilt sc c.args.at) (tells_stop c.in-Err.stop (λ u. c.visit_rows.new.out.nodes) told c.in-Err.ensures.told) }
+
+pub refuse_apply-returns-in-Ok : goal.refuse_apply-returns-in-Ok
+refuse_apply-returns-in-Ok t c =
+    let sc = scope_view c.args.scope.now in
+    let types = types_view c.args.names.now in
+    record {
+      told = stops_behind c.access.result (args_typed (args_view c.args.args.now) sc types (inside sc c.args.name.now (around_view c.args.around)) c.args.out.now.nodes)
+          c.visit_args.new.out.nodes (λ m. apply_typed sc types c.args.at c.args.name.now)
+          (ap (λ o. args_typed (args_view c.args.args.now) sc types o c.args.out.now.nodes) (sym c.inside-inner.ensures) ∙ c.in-Ok.ensures.told) c.access.ensures;
+    }
+
+pub refuse_apply-returns-in-Err : goal.refuse_apply-returns-in-Err
+refuse_apply-returns-in-Err t c =
+    let sc = scope_view c.args.scope.now in
+    let types = types_view c.args.names.now in
+    let told = args_typed (args_view c.args.args.now) sc types (inside sc c.args.name.now (around_view c.args.around)) c.args.out.now.nodes in
+    record {
+      told = part_stops c.in-Err.stop told (λ m. apply_typed sc types c.args.at c.args.name.now)
+          (subst (λ o. StopTells c.in-Err.stop (args_typed (args_view c.args.args.now) sc types o c.args.out.now.nodes)) c.inside-inner.ensures
+          (tells_stop c.in-Err.stop (λ u. c.visit_args.new.out.nodes) (args_typed (args_view c.args.args.now) sc types (around_view c.inside-inner.result) c.args.out.now.nodes) c.in-Err.ensures.told));
+    }
+
+pub visit_args-loop-arg-preserved : goal.visit_args-loop-arg-preserved
+visit_args-loop-arg-preserved t c =
+    let sc = scope_view c.args.scope.now in
+    let types = types_view c.args.names.now in
+    let around = around_view c.args.around in
+    let k = c.loop-arg.arg-index in
+    c.loop-arg.invariant
+    ∙ ap (λ l. args_typed (args_view l) sc types around c.loop-arg.out.nodes) (left_at c.args.args.now k c.arg-item.result c.arg-item.result c.loop-arg-test.true c.arg-item.is)
+    ∙ args_step c.arg-item.result (drop (k + 1) c.args.args.now) sc types around c.loop-arg.out.nodes c.visit_arg.new.out.nodes c.in_ok-visit_arg.ensures.told
+
+pub visit_args-returns-in_err-visit_arg : goal.visit_args-returns-in_err-visit_arg
+visit_args-returns-in_err-visit_arg t c =
+    let p = err_from_is_err_and c.from_residual.result c.from_residual.ensures.1 in
+    let sc = scope_view c.args.scope.now in
+    let types = types_view c.args.names.now in
+    let around = around_view c.args.around in
+    let k = c.loop-arg.arg-index in
+    let s = c.in_err-visit_arg.field-0.0 in
+    let whole = c.loop-arg.invariant ∙ ap (λ l. args_typed (args_view l) sc types around c.loop-arg.out.nodes) (left_at c.args.args.now k c.arg-item.result c.arg-item.result c.loop-arg-test.true c.arg-item.is) in
+    record {
+      told = rw (p.1, p.2) (subst (λ told. Tells {R = Unit {0}} (Err s) (λ u. c.visit_arg.new.out.nodes) told) (sym whole)
+          (args_stop s (λ u. c.visit_arg.new.out.nodes) (λ u. c.visit_arg.new.out.nodes) c.arg-item.result (drop (k + 1) c.args.args.now) sc types around c.loop-arg.out.nodes c.in_err-visit_arg.ensures.told));
+    }
+
+pub visit_arg-returns-in_err-lower_expr-in-Item : goal.visit_arg-returns-in_err-lower_expr-in-Item
+visit_arg-returns-in_err-lower_expr-in-Item t c =
+    let p = err_from_is_err_and c.from_residual.result c.from_residual.ensures.1 in
+    let sc = scope_view c.args.scope.now in
+    let types = types_view c.args.names.now in
+    let around = around_view c.args.around in
+    let s = c.in_err-lower_expr-in-Item.field-0.0 in
+    record { told = rw (p.1, p.2) (item_stop s (typed_view c.lower_expr.new.out.nodes) (λ u. c.lower_expr.new.out.nodes) c.args.arg.now c.in-Item.e sc types around c.args.out.now.nodes c.in-Item.is c.in_err-lower_expr-in-Item.ensures.told) }
+
+pub visit_arg-returns-in_ok-lower_expr-in-Item : goal.visit_arg-returns-in_ok-lower_expr-in-Item
+visit_arg-returns-in_ok-lower_expr-in-Item t c =
+    record {
+      told = item_told c.args.arg.now c.in-Item.e (scope_view c.args.scope.now) (types_view c.args.names.now) (around_view c.args.around) c.args.out.now.nodes
+          (typed_view c.lower_expr.new.out.nodes c.in_ok-lower_expr-in-Item.field-0) c.in-Item.is c.in_ok-lower_expr-in-Item.ensures.told;
+    }
+
+pub visit_row-loop-e-preserved : goal.visit_row-loop-e-preserved
+visit_row-loop-e-preserved t c =
+    let sc = scope_view c.args.scope.now in
+    let types = types_view c.args.names.now in
+    let around = around_view c.args.around in
+    let k = c.loop-e.e-index in
+    let es = c.as_slice-e-items.result.now in
+    c.loop-e.invariant
+    ∙ ap (λ l. row_typed (row_of (map expr_view l)) sc types around c.loop-e.out.nodes) (left_at es k c.e-item.result c.e-item.result c.loop-e-test.true c.e-item.is)
+    ∙ passed (typed (expr_view c.e-item.result) sc types around c.loop-e.out.nodes) (typed_view c.lower_expr.new.out.nodes c.in_ok-lower_expr.field-0)
+    (λ r. row_typed (row_of (map expr_view (drop (k + 1) es))) sc types around r.1) c.in_ok-lower_expr.ensures.told
+
+pub visit_row-returns : goal.visit_row-returns
+visit_row-returns t c =
+    let sc = scope_view c.args.scope.now in
+    let types = types_view c.args.names.now in
+    let around = around_view c.args.around in
+    let k = c.loop-e.e-index in
+    let es = c.as_slice-e-items.result.now in
+    record {
+      told = ap (λ r. row_typed r sc types around c.args.out.now.nodes) (cells_view c.args.row.now ∙ ap (λ l. row_of (map expr_view l)) (sym c.as_slice-e-items.ensures))
+          ∙ c.loop-e.invariant
+          ∙ ap (λ l. row_typed (row_of (map expr_view l)) sc types around c.loop-e.out.nodes) (left_none es k c.loop-e-test.false);
+    }
+
+pub visit_row-returns-in_err-lower_expr : goal.visit_row-returns-in_err-lower_expr
+visit_row-returns-in_err-lower_expr t c =
+    let p = err_from_is_err_and c.from_residual.result c.from_residual.ensures.1 in
+    let sc = scope_view c.args.scope.now in
+    let types = types_view c.args.names.now in
+    let around = around_view c.args.around in
+    let k = c.loop-e.e-index in
+    let es = c.as_slice-e-items.result.now in
+    let s = c.in_err-lower_expr.field-0.0 in
+    let whole = ap (λ r. row_typed r sc types around c.args.out.now.nodes) (cells_view c.args.row.now ∙ ap (λ l. row_of (map expr_view l)) (sym c.as_slice-e-items.ensures))
+    ∙ c.loop-e.invariant
+    ∙ ap (λ l. row_typed (row_of (map expr_view l)) sc types around c.loop-e.out.nodes) (left_at es k c.e-item.result c.e-item.result c.loop-e-test.true c.e-item.is) in
+    record {
+      told = rw (p.1, p.2) (subst (λ told. Tells {R = Unit {0}} (Err s) (λ u. c.lower_expr.new.out.nodes) told) (sym whole)
+          (part_tells s (typed_view c.lower_expr.new.out.nodes) (λ u. c.lower_expr.new.out.nodes) (typed (expr_view c.e-item.result) sc types around c.loop-e.out.nodes)
+          (λ r. row_typed (row_of (map expr_view (drop (k + 1) es))) sc types around r.1) c.in_err-lower_expr.ensures.told));
+    }
+
+pub visit_rows-loop-row-preserved : goal.visit_rows-loop-row-preserved
+visit_rows-loop-row-preserved t c =
+    let sc = scope_view c.args.scope.now in
+    let types = types_view c.args.names.now in
+    let around = around_view c.args.around in
+    let k = c.loop-row.row-index in
+    c.loop-row.invariant
+    ∙ ap (λ l. rows_typed (rows_view l) sc types around c.loop-row.out.nodes) (left_at c.args.rows.now k c.row-item.result c.row-item.result c.loop-row-test.true c.row-item.is)
+    ∙ passed (row_typed (row_view c.row-item.result) sc types around c.loop-row.out.nodes) c.visit_row.new.out.nodes
+    (λ m. rows_typed (rows_view (drop (k + 1) c.args.rows.now)) sc types around m) c.in_ok-visit_row.ensures.told
+
+pub visit_rows-returns-in_err-visit_row : goal.visit_rows-returns-in_err-visit_row
+visit_rows-returns-in_err-visit_row t c =
+    let p = err_from_is_err_and c.from_residual.result c.from_residual.ensures.1 in
+    let sc = scope_view c.args.scope.now in
+    let types = types_view c.args.names.now in
+    let around = around_view c.args.around in
+    let k = c.loop-row.row-index in
+    let s = c.in_err-visit_row.field-0.0 in
+    let whole = c.loop-row.invariant ∙ ap (λ l. rows_typed (rows_view l) sc types around c.loop-row.out.nodes) (left_at c.args.rows.now k c.row-item.result c.row-item.result c.loop-row-test.true c.row-item.is) in
+    record {
+      told = rw (p.1, p.2) (subst (λ told. Tells {R = Unit {0}} (Err s) (λ u. c.visit_row.new.out.nodes) told) (sym whole)
+          (part_tells s (λ u. c.visit_row.new.out.nodes) (λ u. c.visit_row.new.out.nodes) (row_typed (row_view c.row-item.result) sc types around c.loop-row.out.nodes)
+          (λ m. rows_typed (rows_view (drop (k + 1) c.args.rows.now)) sc types around m) c.in_err-visit_row.ensures.told));
+    }

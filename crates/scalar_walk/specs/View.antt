@@ -1,0 +1,89 @@
+-- What values of the code stand for.
+use Rattle.std.specs.Prelude.{◌≡◌, ℕ, List, map, Option, Some, Result, Ok, Err, bytes_eq, option_map}
+use Rattle.fic_base.specs.declared.refusal.Refusal.{Refusal}
+use Rattle.num_type.specs.declared.memory.Stop.{Stop}
+use Rattle.num_type.specs.declared.memory.Stop.TheVariants as stop
+use Rattle.num_type.specs.View.{type_of}
+use Rattle.c_tree.specs.View.{stmt_view}
+use Rattle.scalar_walk.specs.declared.operand.Spot as code_spot
+use Rattle.scalar_walk.specs.declared.operand.Spot.TheVariants as spot
+use Rattle.scalar_walk.specs.declared.operand.Operand as code_operand
+use Rattle.scalar_walk.specs.declared.variables.Variables.{Variables}
+use Rattle.scalar_walk.specs.declared.emitted.Emitted as code_emitted
+use Rattle.scalar_walk.specs.declared.scope.Scope as code_scope
+use Rattle.fic_base.specs.declared.code.Code.{Code}
+use Rattle.fic_base.specs.declared.place.Place.{Place}
+use Rattle.std.specs.Borrow.{Bor}
+use Rattle.std.specs.HashMap.{get_by}
+use Rattle.scalar_walk.specs.NameSets.{names_in}
+use Rattle.mat_token.specs.Lexeme.{lexemes_of}
+use Rattle.scalar_walk.specs.Shown.{text_at}
+use Rattle.scalar_walk.specs.Walk.{Scope, Types, Typed, Walked}
+use Rattle.scalar_walk.specs.Told.{Told, Passes, Refuses}
+use Rattle.scalar_walk.specs.Lowered.{Spot, Input, Variable, Operand, Emitted, Names, Low, Behind, set_next}
+use Rattle.num_type.specs.Types.{NumericType}
+use Rattle.fi_math.specs.Govern.{usual}
+use Rattle.fi_eval.specs.Operators.{Work, result_type}
+
+abbrev pub spot_view : code_spot.Spot → Spot
+spot_view (spot.Input k) = Input k
+spot_view (spot.Variable k) = Variable k
+
+abbrev pub operand_view : code_operand.Operand → Operand
+operand_view o = record { spot = spot_view o.spot; num = type_of o.num }
+
+-- the operands of the variables by their names
+abbrev pub names_view : Variables → Names
+names_view v name = option_map operand_view (get_by (λ k. bytes_eq name k.items) v.table)
+
+abbrev pub emitted_view : code_emitted.Emitted → Emitted
+emitted_view e = record { sets = map stmt_view e.sets; words = e.words }
+
+-- an answer of the code says what is told, unless memory is wanting
+abbrev pub Tells : {R A : Type 0} → Result R (Stop Refusal) → (R → A) → Told A → Type 0
+Tells (Ok x) view told = told ≡ Passes (view x)
+Tells (Err stop.Memory) view told = Unit {0}
+Tells (Err (stop.Refused r)) view told = told ≡ Refuses r.code r.place r.shown
+
+abbrev pub types_view : Variables → Types
+types_view v name = option_map (λ o. o.num) (names_view v name)
+
+abbrev pub scope_view : code_scope.Scope → Scope
+scope_view s = record { variables = names_in s.variables.now; functions = names_in s.functions.now; shown = text_at (lexemes_of s.bytes.now s.tokens.now) }
+
+abbrev pub around_view : Option (Bor (List ℕ)) → Option (List ℕ)
+around_view = option_map (λ b. b.now)
+
+-- a stop of this refusal, unless memory is wanting
+abbrev pub IsStop : Stop Refusal → Code → Place → List ℕ → Type 0
+IsStop stop.Memory code at shown = Unit {0}
+IsStop (stop.Refused r) code at shown = (r.code ≡ code) × (r.place ≡ at) × (r.shown ≡ shown)
+
+-- a stop says what is told, unless memory is wanting
+abbrev pub StopTells : {A : Type 0} → Stop Refusal → Told A → Type 0
+StopTells stop.Memory told = Unit {0}
+StopTells (stop.Refused r) told = told ≡ Refuses r.code r.place r.shown
+
+-- an answer of the code where types are told: there are some, or the refusal is told, unless memory is wanting
+abbrev pub TellsTypes : {R : Type 0} → Result R (Stop Refusal) → Told (List NumericType) → Type 0
+TellsTypes (Ok x) told = (ts : List NumericType) × (told ≡ Passes ts)
+TellsTypes (Err stop.Memory) told = Unit {0}
+TellsTypes (Err (stop.Refused r)) told = told ≡ Refuses r.code r.place r.shown
+
+-- the type and the nodes behind an operand
+abbrev pub typed_view : ℕ → code_operand.Operand → Typed
+typed_view nodes o = (type_of o.num, nodes)
+
+-- what a lowered expression is
+abbrev pub low_view : code_operand.Operand → code_emitted.Emitted → Low
+low_view o e = record { operand = operand_view o; emitted = emitted_view e }
+
+abbrev pub walked_view : Variables → code_emitted.Emitted → Walked
+walked_view v e = record { types = types_view v; nodes = e.nodes }
+
+abbrev pub behind_view : Variables → code_emitted.Emitted → Behind
+behind_view v e = record { names = names_view v; emitted = emitted_view e }
+
+-- an operation on two operands into the next variable
+abbrev pub SetsNext : Work → Operand → Operand → Emitted → Low → Type 0
+SetsNext work x y em low = (t : NumericType) × (result_type work usual x.num y.num ≡ Some t) × (low ≡ set_next work x y em t)

@@ -1,0 +1,66 @@
+//! The statements that lowering has emitted.
+
+ghost use Rattle.std.specs.Prelude.{◌≡◌, ◌≤◌, ◌<◌, ◌++◌, ◌∷◌, [], length, map, OnOk, IfOk};
+
+use c_tree::{CExpr, CStmt, CWord};
+use num_type::Memory;
+use sqlite_items::Items;
+use std::alloc::Global;
+
+/// Statements that set variables, the types of these variables, and the number of nodes walked.
+#[derive(Drop)]
+pub struct Emitted {
+    pub sets: Items<CStmt>,
+    pub words: Items<CWord>,
+    pub nodes: u32,
+    ghost few: { length words ≤ nodes },
+    ghost limit: { nodes ≤ 200000 },
+}
+
+impl Emitted {
+    ghost use Rattle.std.specs.Prelude.{◌≡◌, ◌<◌, ◌++◌, ◌∷◌, [], length, map, OnOk, IfOk, nat_lt, ◌+◌, if◌then◌else◌};
+    ghost use Rattle.c_tree.specs.View.{expr_view, stmt_view};
+    ghost use Rattle.c_tree.specs.Tree.{Set};
+    ghost use Rattle.scalar_walk.specs.Lowered.{nothing_emitted};
+    ghost use Rattle.scalar_walk.specs.View.{emitted_view};
+
+    /// Nothing emitted, and no node walked.
+    pub fn new(alloc: Global) -> Emitted
+        ensures emitted { emitted_view result ≡ nothing_emitted }
+        ensures nodes { result.nodes ≡ 0 }
+    {
+        Emitted {
+            sets: Items::new(alloc),
+            words: Items::new(alloc),
+            nodes: 0,
+        }
+    }
+
+    /// Counts a node. False exactly where the limit of nodes is reached; nothing is changed then.
+    pub fn count(&mut self) -> bool
+        ensures counts { result ≡ nat_lt self.old.nodes 200000 }
+        ensures nodes { self.new.nodes ≡ self.old.nodes + (if result then 1 else 0) }
+        ensures same { emitted_view self.new ≡ emitted_view self.old }
+    {
+        if self.nodes < 200_000 {
+            self.nodes += 1;
+            true
+        } else {
+            false
+        }
+    }
+
+    /// Sets the next variable, of this type, and answers its number. Want of memory is the only refusal.
+    pub fn set_next(&mut self, word: CWord, value: CExpr) -> Result<u32, Memory>
+        requires { length self.old.words < self.old.nodes }
+        ensures number { IfOk result (λ k. k ≡ length self.old.words) }
+        ensures sets { OnOk result (map stmt_view self.new.sets ≡ map stmt_view self.old.sets ++ (Set (length self.old.words) (expr_view value) ∷ [])) }
+        ensures words { OnOk result (self.new.words ≡ self.old.words ++ (word ∷ [])) }
+        ensures nodes { self.new.nodes ≡ self.old.nodes }
+    {
+        let number = self.words.len() as u32;
+        self.words.push(word)?;
+        self.sets.push(c_tree::set(number, value))?;
+        Ok(number)
+    }
+}
