@@ -1,0 +1,5 @@
+pub mod Arguments
+pub mod CompareShapes
+pub mod Comparisons
+pub mod Lowering
+pub mod Operations

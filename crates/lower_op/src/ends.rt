@@ -1,0 +1,217 @@
+//! Sums and differences of two words of one type, brought into its range.
+
+ghost use Rattle.std.specs.Prelude.{◌≡◌, ◌≤◌, true, false, IfOk};
+ghost use Rattle.c_tree.specs.Tree.{Var, Binary, Choose};
+ghost use Rattle.c_tree.specs.View.{expr_view};
+ghost use Rattle.lower_scalar.specs.Shapes;
+ghost use Rattle.lower_scalar.specs.Operators;
+ghost use Rattle.lower_op.specs.Arguments.{above_end, below_end, bits_pair};
+
+use c_tree::{CExpr, COp, CWord};
+use lower_scalar::{
+    below_zero, bits_of, choose_less, constant, least, minus_one, ones, power, top,
+};
+use num_type::{Memory, Overflow};
+use std::alloc::Global;
+
+/// Two variables.
+#[derive(Clone, Copy)]
+pub struct Two {
+    pub x: u32,
+    pub y: u32,
+}
+
+// An operation on the two variables.
+fn pair(alloc: Global, op: COp, v: Two) -> Result<CExpr, Memory>
+    ensures { IfOk result (λ r. expr_view r ≡ Binary op (Var v.x) (Var v.y)) }
+{
+    let r = c_tree::binary(alloc, op, c_tree::variable(v.x), c_tree::variable(v.y))?;
+    Ok(r)
+}
+
+// `x op y`, or the greatest number where `x` is above `top back y`.
+fn below_top(
+    alloc: Global,
+    op: COp,
+    back: COp,
+    signed: bool,
+    word: u32,
+    v: Two,
+) -> Result<CExpr, Memory>
+    requires some { 1 ≤ word }
+    requires most { word ≤ 64 }
+    ensures { IfOk result (λ r. expr_view r ≡ above_end op back signed word v.x v.y) }
+{
+    let end = top(signed, word);
+    let last = c_tree::binary(alloc, back, constant(signed, end), c_tree::variable(v.y))?;
+    let inside = pair(alloc, op, v)?;
+    let r = choose_less(
+        alloc,
+        last,
+        c_tree::variable(v.x),
+        constant(signed, end),
+        inside,
+    )?;
+    Ok(r)
+}
+
+// `x op y`, or the least number where `x` is below `least back y`.
+fn above_least(alloc: Global, op: COp, back: COp, word: u32, v: Two) -> Result<CExpr, Memory>
+    requires some { 1 ≤ word }
+    requires most { word ≤ 64 }
+    ensures { IfOk result (λ r. expr_view r ≡ below_end op back word v.x v.y) }
+{
+    let edge = least(alloc, true, word)?;
+    let first = c_tree::binary(alloc, back, edge, c_tree::variable(v.y))?;
+    let inside = pair(alloc, op, v)?;
+    let low = least(alloc, true, word)?;
+    let r = choose_less(alloc, c_tree::variable(v.x), first, low, inside)?;
+    Ok(r)
+}
+
+// `x + y`, brought to the nearest number of the range.
+fn sum_saturated(alloc: Global, signed: bool, word: u32, v: Two) -> Result<CExpr, Memory>
+    requires some { 1 ≤ word }
+    requires most { word ≤ 64 }
+    ensures { IfOk result (λ r. expr_view r ≡ Operators.sum_saturated signed word v.x v.y) }
+{
+    let high = below_top(alloc, COp::Add, COp::Sub, signed, word, v)?;
+    if signed {
+        let low = above_least(alloc, COp::Add, COp::Sub, word, v)?;
+        let r = below_zero(alloc, v.y, low, high)?;
+        Ok(r)
+    } else {
+        Ok(high)
+    }
+}
+
+// `x - y`, brought to the nearest number of the range.
+fn difference_saturated(alloc: Global, signed: bool, word: u32, v: Two) -> Result<CExpr, Memory>
+    requires some { 1 ≤ word }
+    requires most { word ≤ 64 }
+    ensures { IfOk result (λ r. expr_view r ≡ Operators.difference_saturated signed word v.x v.y) }
+{
+    if signed {
+        let high = below_top(alloc, COp::Sub, COp::Add, true, word, v)?;
+        let low = above_least(alloc, COp::Sub, COp::Add, word, v)?;
+        let r = below_zero(alloc, v.y, high, low)?;
+        Ok(r)
+    } else {
+        let inside = pair(alloc, COp::Sub, v)?;
+        let r = choose_less(
+            alloc,
+            c_tree::variable(v.x),
+            c_tree::variable(v.y),
+            c_tree::unsigned(0),
+            inside,
+        )?;
+        Ok(r)
+    }
+}
+
+// An operation on the two words modulo `2^64`.
+fn pair_bits(alloc: Global, op: COp, signed: bool, v: Two) -> Result<CExpr, Memory>
+    ensures { IfOk result (λ r. expr_view r ≡ bits_pair op signed v.x v.y) }
+{
+    let left = bits_of(alloc, signed, c_tree::variable(v.x))?;
+    let right = bits_of(alloc, signed, c_tree::variable(v.y))?;
+    let r = c_tree::binary(alloc, op, left, right)?;
+    Ok(r)
+}
+
+// Its low bits.
+fn cut(alloc: Global, op: COp, signed: bool, word: u32, v: Two) -> Result<CExpr, Memory>
+    requires some { 1 ≤ word }
+    requires most { word ≤ 64 }
+    ensures { IfOk result (λ r. expr_view r ≡ Shapes.cut word (bits_pair op signed v.x v.y)) }
+{
+    let bits = pair_bits(alloc, op, signed, v)?;
+    let r = c_tree::binary(alloc, COp::And, bits, c_tree::unsigned(ones(word)))?;
+    Ok(r)
+}
+
+// Its low bits as a negative number.
+fn cut_below(alloc: Global, op: COp, word: u32, v: Two) -> Result<CExpr, Memory>
+    requires some { 1 ≤ word }
+    requires most { word ≤ 64 }
+    ensures { IfOk result (λ r. expr_view r ≡ Shapes.cut_below word (bits_pair op true v.x v.y)) }
+{
+    let high = cut(alloc, op, true, word, v)?;
+    let turned = c_tree::binary(alloc, COp::Sub, c_tree::unsigned(ones(word)), high)?;
+    let size = c_tree::cast(alloc, CWord::I64, turned)?;
+    let minus = minus_one(alloc)?;
+    let r = c_tree::binary(alloc, COp::Sub, minus, size)?;
+    Ok(r)
+}
+
+// An operation on the two words modulo `2^word`, as a number of the range.
+fn wrap_pair(alloc: Global, op: COp, signed: bool, word: u32, v: Two) -> Result<CExpr, Memory>
+    requires some { 1 ≤ word }
+    requires most { word ≤ 64 }
+    ensures { IfOk result (λ r. expr_view r ≡ Shapes.wrapped signed word (bits_pair op signed v.x v.y)) }
+{
+    let low = cut(alloc, op, signed, word, v)?;
+    if signed {
+        let same = c_tree::cast(alloc, CWord::I64, low)?;
+        let below = cut_below(alloc, op, word, v)?;
+        let tested = cut(alloc, op, true, word, v)?;
+        let r = choose_less(
+            alloc,
+            tested,
+            c_tree::unsigned(power(word - 1)),
+            same,
+            below,
+        )?;
+        Ok(r)
+    } else {
+        Ok(low)
+    }
+}
+
+/// `x + y` of two words of a type, brought into its range by the action.
+pub fn sum_fitted(
+    alloc: Global,
+    action: Overflow,
+    signed: bool,
+    word: u32,
+    v: Two,
+) -> Result<CExpr, Memory>
+    requires some { 1 ≤ word }
+    requires most { word ≤ 64 }
+    ensures { IfOk result (λ r. expr_view r ≡ Operators.sum_fitted action signed word v.x v.y) }
+{
+    match action {
+        Overflow::Saturate => {
+            let r = sum_saturated(alloc, signed, word, v)?;
+            Ok(r)
+        }
+        Overflow::Wrap => {
+            let r = wrap_pair(alloc, COp::Add, signed, word, v)?;
+            Ok(r)
+        }
+    }
+}
+
+/// `x - y` of two words of a type, brought into its range by the action.
+pub fn difference_fitted(
+    alloc: Global,
+    action: Overflow,
+    signed: bool,
+    word: u32,
+    v: Two,
+) -> Result<CExpr, Memory>
+    requires some { 1 ≤ word }
+    requires most { word ≤ 64 }
+    ensures { IfOk result (λ r. expr_view r ≡ Operators.difference_fitted action signed word v.x v.y) }
+{
+    match action {
+        Overflow::Saturate => {
+            let r = difference_saturated(alloc, signed, word, v)?;
+            Ok(r)
+        }
+        Overflow::Wrap => {
+            let r = wrap_pair(alloc, COp::Sub, signed, word, v)?;
+            Ok(r)
+        }
+    }
+}
