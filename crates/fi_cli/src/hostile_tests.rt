@@ -55,15 +55,15 @@ fn tokens(rt: HostRuntime) -> Result<(), Fail> {
             ("s8.4 s8.4", "$y = 1.5e3i;\n", "2:5 E19 1.5e3i"),
             (
                 "s8.4 s8.4",
-                "function y = f(a, b)\r\ny = a - b;\r\nend\r\n",
-                "2:7 E19 -",
+                "function y = f(a, b)\r\ny = a ^ b;\r\nend\r\n",
+                "2:7 E19 ^",
             ),
-            ("s8.4 s8.4", "$y = a - b;\nend", "2:7 E19 -"),
-            ("s8.4 s8.4", "$y = a ... rest\n - b;\n", "3:2 E19 -"),
+            ("s8.4 s8.4", "$y = a ^ b;\nend", "2:7 E19 ^"),
+            ("s8.4 s8.4", "$y = a ... rest\n ^ b;\n", "3:2 E19 ^"),
             (
                 "s8.4 s8.4",
-                "$%{\n y = @;\n%}\ny = a - b; % @\n",
-                "5:7 E19 -",
+                "$%{\n y = @;\n%}\ny = a ^ b; % @\n",
+                "5:7 E19 ^",
             ),
         ],
     )
@@ -83,8 +83,8 @@ fn quotes_and_brackets(rt: HostRuntime) -> Result<(), Fail> {
             ("s8.4 s8.4", "$y = \"a\"\"b\";\n", "2:5 E19 \"a\"\"b\""),
             ("s8.4 s8.4", "$if 'x', end\n", "2:1 E19 if"),
             ("s8.4 s8.4", "$y = [a b];\n", "2:5 E19 ["),
-            ("s8.4 s8.4", "$y = [a -b];\n", "2:8 E19 -"),
-            ("s8.4 s8.4", "$y = [a - b];\n", "2:8 E19 -"),
+            ("s8.4 s8.4", "$y = [a -b];\n", "2:5 E19 ["),
+            ("s8.4 s8.4", "$y = [a - b];\n", "2:5 E19 ["),
             ("s8.4 s8.4", "$y = [a, % one\n b];\n", "2:5 E19 ["),
             ("s8.4 s8.4", "$y = [,1];\n", "2:7 E03 1"),
             ("s8.4 s8.4", "$y = [1,,2];\n", "2:8 E03 ,"),
@@ -153,6 +153,8 @@ fn headers_and_types(rt: HostRuntime) -> Result<(), Fail> {
             ),
             ("s8.200 s8.200", "$y = a*b;\n", "2:6 E15 400"),
             ("s64.0 s64.0", "$y = a+b;\n", "2:6 E14 65"),
+            ("s64.0 s8.0", "$y = a - b;\n", "2:7 E14 65"),
+            ("s8.200 s8.200", "$y = a .* b;\n", "2:7 E15 400"),
         ],
     )
 }
@@ -163,8 +165,7 @@ fn kinds_that_are_not_built(rt: HostRuntime) -> Result<(), Fail> {
         rt,
         &[
             ("s8.4 s8.4", "$y = 2;\n", "2:5 E19 2"),
-            ("s8.4 s8.4", "$y = -a;\n", "2:5 E19 -"),
-            ("s8.4 s8.4", "$y = a .* b;\n", "2:7 E19 .*"),
+            ("s8.4 s8.4", "$y = ~a;\n", "2:5 E19 ~"),
             ("s8.4 s8.4", "$y = a ^ b;\n", "2:7 E19 ^"),
             ("s8.4 s8.4", "$y = a == b;\n", "2:7 E19 =="),
             ("s8.4 s8.4", "$y = a && b;\n", "2:7 E19 &&"),
@@ -182,6 +183,32 @@ fn kinds_that_are_not_built(rt: HostRuntime) -> Result<(), Fail> {
             ("s8.4 s8.4", "$continue\n", "2:1 E19 continue"),
             ("s8.4 s8.4", "$[y, z] = f(a, b);\n", "2:2 E19 y"),
             ("s8.4 s8.4", "$y(1) = a;\n", "2:1 E19 y"),
+        ],
+    )
+}
+
+#[test]
+fn calls_of_abs(rt: HostRuntime) -> Result<(), Fail> {
+    check_rows(
+        rt,
+        &[
+            ("s8.4 s8.4", "$y = abs;\n", "2:5 E05 0 for 1"),
+            ("s8.4 s8.4", "$y = abs();\n", "2:5 E05 0 for 1"),
+            ("s8.4 s8.4", "$y = abs(a, b);\n", "2:5 E05 2 for 1"),
+            ("s8.4 s8.4", "$y = abs(q, b);\n", "2:9 E06 q"),
+            ("s8.4 s8.4", "$y = abs(:);\n", "2:5 E18 abs"),
+            ("s8.4 s8.4", "$y = abs(a', b);\n", "2:10 E19 '"),
+            ("s8.4 s8.4", "$abs = a;\ny = abs(b);\n", "3:5 E19 abs"),
+            (
+                "s8.4 s8.4",
+                "$y = abs(a);\nend\nfunction y = abs(a)\ny = a;\nend\n",
+                "2:5 E19 abs",
+            ),
+            (
+                "s8.4 s8.4",
+                "$y = abs(b);\ny = abs(a)*b;\n",
+                "3:1 E10 s16.8:1x1 into s8.4:1x1",
+            ),
         ],
     )
 }

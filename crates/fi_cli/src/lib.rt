@@ -5,6 +5,8 @@ mod call;
 mod command;
 #[cfg(test)]
 mod hostile_tests;
+#[cfg(test)]
+mod kernel_tests;
 mod lines;
 mod put;
 mod results;

@@ -22,7 +22,7 @@ int32_t fic_f(const int8_t in_a[1], const int8_t in_b[1], int32_t out_y[1]) {
 ";
 
 /// The words of a line.
-fn words(rt: HostRuntime, line: &str) -> Result<Vec<String>, AllocError> {
+pub fn words(rt: HostRuntime, line: &str) -> Result<Vec<String>, AllocError> {
     let mut words = Vec::new(rt.alloc());
     for word in line.split_whitespace() {
         words.push(String::from_str(rt.alloc(), word)?)?;
@@ -31,7 +31,7 @@ fn words(rt: HostRuntime, line: &str) -> Result<Vec<String>, AllocError> {
 }
 
 /// A shelf with one source under `f.m`, which fails at these reads.
-fn shelf(rt: HostRuntime, source: &str, fails: &[u64]) -> Result<MemShelf, AllocError> {
+pub fn shelf(rt: HostRuntime, source: &str, fails: &[u64]) -> Result<MemShelf, AllocError> {
     let bytes = source.as_bytes().to_vec(rt.alloc())?;
     shelf_of(rt, bytes, fails)
 }
@@ -153,7 +153,7 @@ fn a_sum_of_products_is_compiled(rt: HostRuntime) -> Result<(), Fail> {
 #[test]
 fn refused_sources_tell_place_code_and_token(rt: HostRuntime) -> Result<(), Fail> {
     for (second, line) in [
-        ("y = a - b;", "2:7 E19 -\n"),
+        ("y = a ^ b;", "2:7 E19 ^\n"),
         ("y = a ? b;", "2:7 E01 3f\n"),
         ("y = a b;", "2:7 E03 b\n"),
         ("y = a + c;", "2:9 E06 c\n"),

@@ -1,12 +1,12 @@
 -- What expressions, statements and functions of a source do, over its tree and without inference.
-use Rattle.std.specs.Prelude.{ℕ, Bool, true, false, if◌then◌else◌, List, [], ◌∷◌, ◌++◌, map, Option, Some, None, bytes_eq}
+use Rattle.std.specs.Prelude.{ℕ, Bool, not, ◌&&◌, ◌||◌, codes, if◌then◌else◌, List, [], ◌∷◌, ◌++◌, map, Option, Some, None, bytes_eq}
 use Rattle.std.specs.List.{list_any}
 use Rattle.fic_base.specs.declared.place.Place.{Place}
 use Rattle.mat_ast.specs.declared.tree.Ident.{Ident}
-use Rattle.mat_ast.specs.Tree.{Exp, Number, Words, Name, Apply, End, Unary, Binary, Post, Range, RangeBy, Paren, Matrix, Sta, Assign, Store, Multi, IfOnly, IfElse, ForEach, WhileTrue, BreakOff, GoOn, Arms, NoArms, Arm, Block, Done, Next, Fun}
+use Rattle.mat_ast.specs.Tree.{Exp, Number, Words, Name, Apply, End, Unary, Binary, Post, Range, RangeBy, Paren, Matrix, NoArgs, Item, Sta, Assign, Store, Multi, IfOnly, IfElse, ForEach, WhileTrue, BreakOff, GoOn, Arms, NoArms, Arm, Block, Done, Next, Fun}
 use Rattle.fi_eval.specs.Outcome.{Got, Gives, Wrong, ◌>>=◌, or_wrong, when◌then◌else◌}
 use Rattle.fi_eval.specs.Value.{Val, Fi, ComplexFi, Logical}
-use Rattle.fi_eval.specs.Operators.{operated}
+use Rattle.fi_eval.specs.Operators.{operated, signed, turned, Remove}
 
 -- names with their values, the newest first
 abbrev pub Env : Type 0
@@ -16,34 +16,49 @@ abbrev pub look_up : {A : Type 0} → List (List ℕ × A) → List ℕ → Opti
 look_up [] name = None
 look_up (entry ∷ more) name = if bytes_eq entry.0 name then Some entry.1 else look_up more name
 
--- the names that are variables throughout a function
-abbrev pub Variables : Type 0
-Variables = List (List ℕ)
+-- what stays the same over a function
+pub record Context : Type 0 where
+  -- the names that are variables throughout it
+  pub variables : List (List ℕ)
+  -- the names of the file's functions
+  pub functions : List (List ℕ)
 
-abbrev pub is_variable : Variables → List ℕ → Bool
-is_variable variables name = list_any (λ other. bytes_eq other name) variables
+abbrev pub is_listed : List ℕ → List (List ℕ) → Bool
+is_listed name names = list_any (λ other. bytes_eq other name) names
+
+abbrev pub is_variable : Context → List ℕ → Bool
+is_variable cx name = is_listed name cx.variables
+
+-- whether a name called is the built-in function abs: a variable or a function of the file goes before it
+abbrev pub is_abs : Context → List ℕ → Bool
+is_abs cx name = bytes_eq name (codes "abs") && not (is_variable cx name || is_listed name cx.functions)
+
+-- a call with one argument
+abbrev pub called : Place → Context → List ℕ → Val → Got Place Val
+called at cx name v = when is_abs cx name then turned at Remove v else Wrong at
 
 -- the value of a variable at this place
 abbrev pub variable : Env → Place → List ℕ → Got Place Val
 variable env at name = or_wrong at (look_up env name)
 
 -- the value of an expression; a kind that isn't built yet is wrong at its place
-abbrev pub value : Exp → Variables → Env → Got Place Val
-value (Number at text imaginary) vs env = Wrong at
-value (Words at text) vs env = Wrong at
-value (Name at name) vs env = when is_variable vs name then variable env at name else Wrong at
-value (Apply at name opens args) vs env = Wrong at
-value (End at) vs env = Wrong at
-value (Unary at sign e) vs env = Wrong at
-value (Binary at operator a b) vs env = do
-  x ← value a vs env
-  y ← value b vs env
+abbrev pub value : Exp → Context → Env → Got Place Val
+value (Number at text imaginary) cx env = Wrong at
+value (Words at text) cx env = Wrong at
+value (Name at name) cx env = when is_variable cx name then variable env at name else Wrong at
+value (Apply at name opens (Item e NoArgs)) cx env = value e cx env >>= called at cx name
+value (Apply at name opens args) cx env = Wrong at
+value (End at) cx env = Wrong at
+value (Unary at sign e) cx env = value e cx env >>= signed at sign
+value (Binary at operator a b) cx env = do
+  x ← value a cx env
+  y ← value b cx env
   operated at operator x y
-value (Post at mark e) vs env = Wrong at
-value (Range at first last) vs env = Wrong at
-value (RangeBy at first step last) vs env = Wrong at
-value (Paren at e) vs env = value e vs env
-value (Matrix at rows) vs env = Wrong at
+value (Post at mark e) cx env = Wrong at
+value (Range at first last) cx env = Wrong at
+value (RangeBy at first step last) cx env = Wrong at
+value (Paren at e) cx env = value e cx env
+value (Matrix at rows) cx env = Wrong at
 
 -- where a statement leads: on, out of a loop, or to its next turn
 pub data Flow : Type 0 where
@@ -83,20 +98,20 @@ place_of (Matrix at rows) = at
 
 abbrev mutual
   -- a statement, with at most n turns of each while; a kind that isn't built yet is wrong at its place
-  pub run : Sta → Variables → ℕ → Env → Got Place Flow
-  run (Assign to e) vs n env = value e vs env >>= (λ v. Gives (Went ((to.text, v) ∷ env)))
-  run (Store to opens args e) vs n env = Wrong to.place
-  run (Multi targets e) vs n env = Wrong (first_place targets (place_of e))
-  run (IfOnly at arms) vs n env = Wrong at
-  run (IfElse at arms other) vs n env = Wrong at
-  run (ForEach at to range body) vs n env = Wrong at
-  run (WhileTrue at test body) vs n env = Wrong at
-  run (BreakOff at) vs n env = Wrong at
-  run (GoOn at) vs n env = Wrong at
+  pub run : Sta → Context → ℕ → Env → Got Place Flow
+  run (Assign to e) cx n env = value e cx env >>= (λ v. Gives (Went ((to.text, v) ∷ env)))
+  run (Store to opens args e) cx n env = Wrong to.place
+  run (Multi targets e) cx n env = Wrong (first_place targets (place_of e))
+  run (IfOnly at arms) cx n env = Wrong at
+  run (IfElse at arms other) cx n env = Wrong at
+  run (ForEach at to range body) cx n env = Wrong at
+  run (WhileTrue at test body) cx n env = Wrong at
+  run (BreakOff at) cx n env = Wrong at
+  run (GoOn at) cx n env = Wrong at
 
-  pub run_block : Block → Variables → ℕ → Env → Got Place Flow
-  run_block Done vs n env = Gives (Went env)
-  run_block (Next s more) vs n env = run s vs n env >>= (λ flow. then_do flow (run_block more vs n))
+  pub run_block : Block → Context → ℕ → Env → Got Place Flow
+  run_block Done cx n env = Gives (Went env)
+  run_block (Next s more) cx n env = run s cx n env >>= (λ flow. then_do flow (run_block more cx n))
 
 -- ---- functions
 
@@ -130,14 +145,17 @@ abbrev mutual
   targets_of_block (Next s more) = targets_of s ++ targets_of_block more
 
 -- inputs, outputs, targets and loop variables
-abbrev pub variables_of : Fun → Variables
+abbrev pub variables_of : Fun → List (List ℕ)
 variables_of f = names_of f.inputs ++ names_of f.outputs ++ targets_of_block f.body
+
+abbrev pub context_of : List Fun → Fun → Context
+context_of fs f = record { variables = variables_of f; functions = map (λ g. g.name.text) fs }
 
 -- the inputs with their values, the last one of a name first; none where their numbers differ
 abbrev pub bound : List Ident → List Val → Env → Option Env
 bound [] [] env = Some env
 bound (name ∷ names) (v ∷ vs) env = bound names vs ((name.text, v) ∷ env)
-bound names vs env = None
+bound names cx env = None
 
 -- an entry's output is a fi or a logical
 unfoldable pub output : Place → Val → Got Place Val
@@ -157,13 +175,13 @@ outputs (name ∷ names) env = do
 abbrev pub start : Place
 start = record { offset = 0; line = 1; col = 1 }
 
--- an entry on these inputs
-abbrev pub entered : Fun → List Val → ℕ → Got Place (List Val)
-entered f vs n = do
+-- an entry of a file on these inputs
+abbrev pub entered : List Fun → Fun → List Val → ℕ → Got Place (List Val)
+entered fs f vs n = do
   env ← or_wrong f.name.place (bound f.inputs vs [])
-  flow ← run_block f.body (variables_of f) n env
+  flow ← run_block f.body (context_of fs f) n env
   outputs f.outputs (env_of flow)
 
 -- what a file does from an entry, where each while makes at most n turns
 abbrev pub evaluated : List Fun → List ℕ → List Val → ℕ → Got Place (List Val)
-evaluated fs entry vs n = or_wrong start (function_named fs entry) >>= (λ f. entered f vs n)
+evaluated fs entry vs n = or_wrong start (function_named fs entry) >>= (λ f. entered fs f vs n)

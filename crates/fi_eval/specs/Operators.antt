@@ -1,29 +1,33 @@
 -- Operators on values.
-use Rattle.std.specs.Prelude.{ℕ, Bool, ◌&&◌, nat_eq, ℤ, List, [], ◌∷◌, map, Option, Some, None, Result, Ok, Err}
+use Rattle.std.specs.Prelude.{Bool, ◌&&◌, nat_eq, ℤ, List, [], ◌∷◌, map, Option, Some, None, Result, Ok, Err}
 use Rattle.fic_base.specs.declared.place.Place.{Place}
 use Rattle.mat_ast.specs.declared.tree.BinOp.{BinOp}
 use Rattle.mat_ast.specs.declared.tree.BinOp.TheVariants as bin
+use Rattle.mat_ast.specs.declared.tree.UnOp.{UnOp}
+use Rattle.mat_ast.specs.declared.tree.UnOp.TheVariants as un
 use Rattle.num_type.specs.Types.{NumericType}
 use Rattle.fi_math.specs.declared.fimath.Fimath.{Fimath}
 use Rattle.fi_math.specs.declared.governing.Governed.{Governed}
 use Rattle.fi_math.specs.declared.governing.Differ.{Differ}
-use Rattle.fi_math.specs.Govern.{governed}
+use Rattle.fi_math.specs.Govern.{governed, usual}
 use Rattle.fi_math.specs.Made.{Made, Is, Wide, Out}
-use Rattle.fi_math.specs.Rules.{product_made, add_made}
-use Rattle.fi_ops.specs.Elements.{Element}
-use Rattle.fi_ops.specs.Operations.{multiplied, summed}
+use Rattle.fi_math.specs.Rules.{product_made, add_made, sub_made}
+use Rattle.fi_ops.specs.Operations.{multiplied, summed, subtracted, negated, absolute}
 use Rattle.fi_eval.specs.Outcome.{Got, Gives, Wrong, ◌>>=◌, or_wrong, when◌then◌else◌}
 use Rattle.fi_eval.specs.Value.{Shape, count, Val, Fi}
 
 -- what kind of work an operator does
 pub data Work : Type 0 where
   Sum : Work
+  Difference : Work
   Product : Work
   Unbuilt : Work
 
 abbrev pub work_of : BinOp → Work
 work_of bin.Add = Sum
+work_of bin.Sub = Difference
 work_of bin.Mul = Product
+work_of bin.ElemMul = Product
 work_of _ = Unbuilt
 
 -- element by element, a single one with each
@@ -43,12 +47,14 @@ type_in (Out fraction) = None
 -- the type of a result, by the fimath that governs
 abbrev pub result_type : Work → Fimath → NumericType → NumericType → Option NumericType
 result_type Sum m a b = type_in (add_made m a b)
+result_type Difference m a b = type_in (sub_made m a b)
 result_type Product m a b = type_in (product_made m a b)
 result_type Unbuilt m a b = None
 
 -- the stored integer of a result of this type, from two stored integers
 abbrev pub element : Work → Fimath → NumericType → NumericType → NumericType → ℤ → ℤ → ℤ
 element Sum m t a b x y = summed m t (record { num = a; z = x }) (record { num = b; z = y })
+element Difference m t a b x y = subtracted m t (record { num = a; z = x }) (record { num = b; z = y })
 element Product m t a b x y = multiplied m t (record { num = a; z = x }) (record { num = b; z = y })
 element Unbuilt m t a b x y = x
 
@@ -74,3 +80,32 @@ fi_pair at work a ma sa xs b mb sb ys =
 unfoldable pub operated : Place → BinOp → Val → Val → Got Place Val
 operated at operator (Fi a ma sa xs) (Fi b mb sb ys) = fi_pair at (work_of operator) a ma sa xs b mb sb ys
 operated at operator x y = Wrong at
+
+-- ---- one operand
+
+-- the fimath of an operation with one operand
+unfoldable pub math_of : Option Fimath → Fimath
+math_of None = usual
+math_of (Some m) = m
+
+-- what is done to a number's sign
+pub data Turn : Type 0 where
+  Keep : Turn
+  Negate : Turn
+  Remove : Turn
+
+abbrev pub turned_element : Turn → Fimath → NumericType → ℤ → ℤ
+turned_element Keep m t x = x
+turned_element Negate m t x = negated m (record { num = t; z = x })
+turned_element Remove m t x = absolute m (record { num = t; z = x })
+
+-- a real fi in its own type, with its fimath
+unfoldable pub turned : Place → Turn → Val → Got Place Val
+turned at turn (Fi t m s xs) = Gives (Fi t m s (map (turned_element turn (math_of m) t) xs))
+turned at turn v = Wrong at
+
+-- a sign before an operand; a kind that isn't built yet is wrong at its place
+abbrev pub signed : Place → UnOp → Val → Got Place Val
+signed at un.Plus v = turned at Keep v
+signed at un.Minus v = turned at Negate v
+signed at un.Not v = Wrong at

@@ -1,5 +1,5 @@
 -- The statements of a block lead to a state in which its variables stand.
-use Rattle.std.proofs.Common.{◌≡◌, ℕ, ◌≤◌, Bool, true, false, ◌||◌, List, [], ◌∷◌, ◌++◌, length, map, ℤ, Option, Some, None, refl, sym, ap, ◌∙◌, subst, arith, append_assoc, append-nil, if◌then◌else◌}
+use Rattle.std.proofs.Common.{◌≡◌, ℕ, ◌≤◌, Bool, true, false, ◌||◌, List, [], ◌∷◌, ◌++◌, length, map, ℤ, Some, refl, sym, ap, ◌∙◌, subst, arith, append_assoc, append-nil, if◌then◌else◌}
 use Rattle.std.specs.Prelude.{bytes_eq}
 use Rattle.std.specs.List.{list_any}
 use Rattle.mat_ast.specs.declared.tree.Ident.{Ident}
@@ -8,18 +8,19 @@ use Rattle.mat_ast.specs.Tree.{Assign, Store, Multi, IfOnly, IfElse, ForEach, Wh
 use Rattle.fi_eval.specs.Outcome as got
 use Rattle.fi_eval.specs.Value.{Val}
 use Rattle.fi_eval.specs.Meaning as source
-use Rattle.fi_eval.specs.Meaning.{Env, Variables, look_up, is_variable, targets_of, targets_of_block}
+use Rattle.fi_eval.specs.Meaning.{Env, Context, look_up, is_variable, targets_of, targets_of_block}
 use Rattle.c_tree.specs.declared.tree.CWord.{CWord}
 use Rattle.c_tree.specs.Tree.{Sta}
 use Rattle.c_tree.specs.Meaning.{State}
 use Rattle.scalar_walk.specs.Walk.{with_type}
-use Rattle.scalar_walk.specs.Lowered.{Operand, Names, Emitted, and_then, lowered, sta_lowered, block_lowered, Behind}
+use Rattle.scalar_walk.specs.Lowered.{Operand, Names, Emitted, IsStaLowered, IsBlockLowered, Behind}
 use Rattle.scalar_walk.proofs.Makes.{Stands, or_left, or_right}
-use Rattle.scalar_walk.proofs.Runs.{word_type, RunsTo, runs_nothing, runs_both, IsBelow, Keeps, keeps_both, Sees, sees_after, fi_of, Adds, adds, adds_nothing, adds_both, some_of, some_is, runs, rest_of}
+use Rattle.scalar_walk.proofs.Runs.{word_type, RunsTo, runs_nothing, runs_both, IsBelow, Keeps, keeps_both, Adds, adds_nothing, adds_both, some_is, rest_of}
+use Rattle.scalar_walk.proofs.Expressions.{Sees, sees_after, fi_of, adds, runs}
 
 -- names that are variables
-abbrev pub Covers : Variables → List (List ℕ) → Type 0
-Covers vs names = (name : List ℕ) → list_any (λ other. bytes_eq other name) names ≡ true → is_variable vs name ≡ true
+abbrev pub Covers : Context → List (List ℕ) → Type 0
+Covers cx names = (name : List ℕ) → list_any (λ other. bytes_eq other name) names ≡ true → is_variable cx name ≡ true
 
 pub any_behind : (p : List ℕ → Bool) (xs ys : List (List ℕ)) → list_any p ys ≡ true → list_any p (xs ++ ys) ≡ true
 any_behind p [] ys e = e
@@ -34,10 +35,10 @@ any_front p [] ys e = absurd (cc)
 any_front p (x ∷ xs) ys e = or_cases (p x) (list_any p xs) (list_any p (xs ++ ys)) (any_front p xs ys) e
 
 -- a variable that is assigned stands there with its new value
-pub sees_assigned : (names : Names) (vs : Variables) (env : Env) (st : State) (n : ℕ) (to : List ℕ) (o : Operand) (z : ℤ) → Covers vs (to ∷ []) → Stands st o z → IsBelow o.spot n → Sees names vs env st n → Sees (with_type names to o) vs ((to, fi_of o.num z) ∷ env) st n
-sees_assigned names vs env st n to o z covers stands below sees name p e = by (bytes_eq to name) refl e
+pub sees_assigned : (names : Names) (cx : Context) (env : Env) (st : State) (n : ℕ) (to : List ℕ) (o : Operand) (z : ℤ) → Covers cx (to ∷ []) → Stands st o z → IsBelow o.spot n → Sees names cx env st n → Sees (with_type names to o) cx ((to, fi_of o.num z) ∷ env) st n
+sees_assigned names cx env st n to o z covers stands below sees name p e = by (bytes_eq to name) refl e
   where
-    by : (b : Bool) → bytes_eq to name ≡ b → (if b then Some o else names name) ≡ Some p → (y : ℤ) × ((if bytes_eq to name then Some (fi_of o.num z) else look_up env name) ≡ Some (fi_of p.num y)) × Stands st p y × IsBelow p.spot n × (is_variable vs name ≡ true)
+    by : (b : Bool) → bytes_eq to name ≡ b → (if b then Some o else names name) ≡ Some p → (y : ℤ) × ((if bytes_eq to name then Some (fi_of o.num z) else look_up env name) ≡ Some (fi_of p.num y)) × Stands st p y × IsBelow p.spot n × (is_variable cx name ≡ true)
     by true h e =
         let same : o ≡ p = some_is o p e in (
           z,
@@ -51,51 +52,42 @@ sees_assigned names vs env st n to o z covers stands below sees name p e = by (b
         (f.0, ap (λ b. if b then Some (fi_of o.num z) else look_up env name) h ∙ f.1, f.2, f.3, f.4)
 
 -- a run of a block's statements
-pub record RanBlock (vs : Variables) (env : Env) (b : ast.Block) (em : Emitted) (behind : Behind) (st : State) (all : List CWord) : Type 0 where
+pub record RanBlock (cx : Context) (env : Env) (b : ast.Block) (em : Emitted) (behind : Behind) (st : State) (all : List CWord) : Type 0 where
   pub more : List Sta
   pub is : behind.emitted.sets ≡ em.sets ++ more
   pub after : State
   pub does : RunsTo more st after
   pub env_after : Env
-  pub gives : (n : ℕ) → source.run_block b vs n env ≡ got.Gives (source.Went env_after)
-  pub sees : Sees behind.names vs env_after after (length behind.emitted.words)
+  pub gives : (n : ℕ) → source.run_block b cx n env ≡ got.Gives (source.Went env_after)
+  pub sees : Sees behind.names cx env_after after (length behind.emitted.words)
   pub keeps : Keeps (length em.words) st after
   pub typed : map word_type after.words ≡ all
   pub wider : length em.words ≤ length behind.emitted.words
 
 -- what is lowered behind statements only adds some
-sta_adds : (s : ast.Sta) (names : Names) (em : Emitted) (b : Behind) → sta_lowered s names em ≡ Some b → Adds em b.emitted
-sta_adds (Assign to e) names em b h =
-    let x = some_of (lowered e names em) (λ x. Some (record { names = with_type names to.text x.operand; emitted = x.emitted })) b h in
-    let same = some_is (record { names = with_type names to.text x.0.operand; emitted = x.0.emitted }) b x.2 in
-    subst (λ l. Adds em l.emitted) same (adds e names em x.0 x.1)
-sta_adds (Store to opens args e) names em b h = absurd (cc)
-sta_adds (Multi targets e) names em b h = absurd (cc)
-sta_adds (IfOnly at arms) names em b h = absurd (cc)
-sta_adds (IfElse at arms other) names em b h = absurd (cc)
-sta_adds (ForEach at to range body) names em b h = absurd (cc)
-sta_adds (WhileTrue at test body) names em b h = absurd (cc)
-sta_adds (BreakOff at) names em b h = absurd (cc)
-sta_adds (GoOn at) names em b h = absurd (cc)
+sta_adds : (s : ast.Sta) (cx : Context) (names : Names) (em : Emitted) (b : Behind) → IsStaLowered s cx names em b → Adds em b.emitted
+sta_adds (Assign to e) cx names em b h = subst (λ l. Adds em l.emitted) (sym h.2) (adds e cx names em h.0 h.1)
+sta_adds (Store to opens args e) cx names em b h = absurd h
+sta_adds (Multi targets e) cx names em b h = absurd h
+sta_adds (IfOnly at arms) cx names em b h = absurd h
+sta_adds (IfElse at arms other) cx names em b h = absurd h
+sta_adds (ForEach at to range body) cx names em b h = absurd h
+sta_adds (WhileTrue at test body) cx names em b h = absurd h
+sta_adds (BreakOff at) cx names em b h = absurd h
+sta_adds (GoOn at) cx names em b h = absurd h
 
-pub block_adds : (b : ast.Block) (names : Names) (em : Emitted) (behind : Behind) → block_lowered b names em ≡ Some behind → Adds em behind.emitted
-block_adds ast.Done names em behind h = let same = some_is (record { names = names; emitted = em }) behind h in subst (λ l. Adds em l.emitted) same (adds_nothing em)
-block_adds (ast.Next s more) names em behind h =
-    let x = some_of (sta_lowered s names em) (λ b. block_lowered more b.names b.emitted) behind h in
-    adds_both em x.0.emitted behind.emitted (sta_adds s names em x.0 x.1) (block_adds more x.0.names x.0.emitted behind x.2)
+pub block_adds : (b : ast.Block) (cx : Context) (names : Names) (em : Emitted) (behind : Behind) → IsBlockLowered b cx names em behind → Adds em behind.emitted
+block_adds ast.Done cx names em behind h = subst (λ l. Adds em l.emitted) (sym h) (adds_nothing em)
+block_adds (ast.Next s more) cx names em behind h =
+    adds_both em h.0.emitted behind.emitted (sta_adds s cx names em h.0 h.1) (block_adds more cx h.0.names h.0.emitted behind h.2)
 
-pub none_some : {A B : Type 0} (next : A → Option B) (y : B) → and_then None next ≡ Some y → ⊥
-unfolding and_then
-none_some next y h = cc
-
-assign_gives : (to : Ident) (e : ast.Exp) (more : ast.Block) (vs : Variables) (env : Env) (n : ℕ) (v : Val) → source.value e vs env ≡ got.Gives v → source.run_block (ast.Next (Assign to e) more) vs n env ≡ source.run_block more vs n ((to.text, v) ∷ env)
+assign_gives : (to : Ident) (e : ast.Exp) (more : ast.Block) (cx : Context) (env : Env) (n : ℕ) (v : Val) → source.value e cx env ≡ got.Gives v → source.run_block (ast.Next (Assign to e) more) cx n env ≡ source.run_block more cx n ((to.text, v) ∷ env)
 unfolding got.bind
-assign_gives to e more vs env n v h = ap (λ g. got.bind (got.bind g (λ v. got.Gives (source.Went ((to.text, v) ∷ env)))) (λ flow. source.then_do flow (source.run_block more vs n))) h
+assign_gives to e more cx env n v h = ap (λ g. got.bind (got.bind g (λ v. got.Gives (source.Went ((to.text, v) ∷ env)))) (λ flow. source.then_do flow (source.run_block more cx n))) h
 
-pub block_runs : (b : ast.Block) (names : Names) (vs : Variables) (env : Env) (em : Emitted) (behind : Behind) → block_lowered b names em ≡ Some behind → Covers vs (targets_of_block b) → (st : State) (all rest : List CWord) → Sees names vs env st (length em.words) → map word_type st.words ≡ all → all ≡ behind.emitted.words ++ rest → RanBlock vs env b em behind st all
-block_runs ast.Done names vs env em behind h covers st all rest sees typed fits =
-    let same = some_is (record { names = names; emitted = em }) behind h in
-    subst (λ l. RanBlock vs env ast.Done em l st all) same (record {
+pub block_runs : (b : ast.Block) (names : Names) (cx : Context) (env : Env) (em : Emitted) (behind : Behind) → IsBlockLowered b cx names em behind → Covers cx (targets_of_block b) → (st : State) (all rest : List CWord) → Sees names cx env st (length em.words) → map word_type st.words ≡ all → all ≡ behind.emitted.words ++ rest → RanBlock cx env b em behind st all
+block_runs ast.Done names cx env em behind h covers st all rest sees typed fits =
+    subst (λ l. RanBlock cx env ast.Done em l st all) (sym h) (record {
       more = [];
       is = sym (append-nil em.sets);
       after = st;
@@ -107,38 +99,38 @@ block_runs ast.Done names vs env em behind h covers st all rest sees typed fits 
       typed = typed;
       wider = omega arith;
     })
-block_runs (ast.Next (Assign to e) more) names vs env em behind h covers st all rest sees typed fits =
-    let y = some_of (sta_lowered (Assign to e) names em) (λ b. block_lowered more b.names b.emitted) behind h in
-    let x = some_of (lowered e names em) (λ x. Some (record { names = with_type names to.text x.operand; emitted = x.emitted })) y.0 y.1 in
-    let same = some_is (record { names = with_type names to.text x.0.operand; emitted = x.0.emitted }) y.0 x.2 in
-    let add = block_adds more y.0.names y.0.emitted behind y.2 in
-    let fits_y : all ≡ y.0.emitted.words ++ (add.extra ++ rest) = rest_of all y.0.emitted.words add.extra rest behind.emitted.words fits add.words in
-    let fits_x : all ≡ x.0.emitted.words ++ (add.extra ++ rest) = fits_y ∙ ap (λ l. l.emitted.words ++ (add.extra ++ rest)) (sym same) in
-    let p = runs e names vs env em x.0 x.1 st all (add.extra ++ rest) sees typed fits_x in
-    let env_p : Env = (to.text, fi_of x.0.operand.num p.z) ∷ env in
-    let here : Covers vs (to.text ∷ []) = λ name q. covers name (any_front (λ other. bytes_eq other name) (to.text ∷ []) (targets_of_block more) q) in
-    let sees_p = sees_assigned names vs env p.after (length x.0.emitted.words) to.text x.0.operand p.z here p.stands p.below (sees_after names vs env st p.after (length em.words) (length x.0.emitted.words) p.wider p.keeps sees) in
-    let sees_y : Sees y.0.names vs env_p p.after (length y.0.emitted.words) = subst (λ l. Sees l.names vs env_p p.after (length l.emitted.words)) same sees_p in
-    let q = block_runs more y.0.names vs env_p y.0.emitted behind y.2 (λ name r. covers name (any_behind (λ other. bytes_eq other name) (to.text ∷ []) (targets_of_block more) r)) p.after all rest sees_y p.typed fits in
-    let is_p : y.0.emitted.sets ≡ em.sets ++ p.more = ap (λ l. l.emitted.sets) (sym same) ∙ p.is in
-    let wide_p : length em.words ≤ length y.0.emitted.words = subst (λ l. length em.words ≤ length l.emitted.words) same p.wider in
+block_runs (ast.Next (Assign to e) more) names cx env em behind h covers st all rest sees typed fits =
+    let y = h.0 in
+    let x = h.1.0 in
+    let same = sym h.1.2 in
+    let add = block_adds more cx y.names y.emitted behind h.2 in
+    let fits_y : all ≡ y.emitted.words ++ (add.extra ++ rest) = rest_of all y.emitted.words add.extra rest behind.emitted.words fits add.words in
+    let fits_x : all ≡ x.emitted.words ++ (add.extra ++ rest) = fits_y ∙ ap (λ l. l.emitted.words ++ (add.extra ++ rest)) (sym same) in
+    let p = runs e names cx env em x h.1.1 st all (add.extra ++ rest) sees typed fits_x in
+    let env_p : Env = (to.text, fi_of x.operand.num p.z) ∷ env in
+    let here : Covers cx (to.text ∷ []) = λ name q. covers name (any_front (λ other. bytes_eq other name) (to.text ∷ []) (targets_of_block more) q) in
+    let sees_p = sees_assigned names cx env p.after (length x.emitted.words) to.text x.operand p.z here p.stands p.below (sees_after names cx env st p.after (length em.words) (length x.emitted.words) p.wider p.keeps sees) in
+    let sees_y : Sees y.names cx env_p p.after (length y.emitted.words) = subst (λ l. Sees l.names cx env_p p.after (length l.emitted.words)) same sees_p in
+    let q = block_runs more y.names cx env_p y.emitted behind h.2 (λ name r. covers name (any_behind (λ other. bytes_eq other name) (to.text ∷ []) (targets_of_block more) r)) p.after all rest sees_y p.typed fits in
+    let is_p : y.emitted.sets ≡ em.sets ++ p.more = ap (λ l. l.emitted.sets) (sym same) ∙ p.is in
+    let wide_p : length em.words ≤ length y.emitted.words = subst (λ l. length em.words ≤ length l.emitted.words) same p.wider in
     record {
       more = p.more ++ q.more;
       is = q.is ∙ ap (λ l. l ++ q.more) is_p ∙ append_assoc em.sets p.more q.more;
       after = q.after;
       does = runs_both p.more q.more st p.after q.after p.does q.does;
       env_after = q.env_after;
-      gives = λ n. assign_gives to e more vs env n (fi_of x.0.operand.num p.z) p.gives ∙ q.gives n;
+      gives = λ n. assign_gives to e more cx env n (fi_of x.operand.num p.z) p.gives ∙ q.gives n;
       sees = q.sees;
-      keeps = keeps_both (length em.words) (length y.0.emitted.words) st p.after q.after wide_p p.keeps q.keeps;
+      keeps = keeps_both (length em.words) (length y.emitted.words) st p.after q.after wide_p p.keeps q.keeps;
       typed = q.typed;
       wider = omega (arith, wide_p, q.wider);
     }
-block_runs (ast.Next (Store to opens args e) more) names vs env em behind h covers st all rest sees typed fits = absurd (none_some (λ b. block_lowered more b.names b.emitted) behind h)
-block_runs (ast.Next (Multi targets e) more) names vs env em behind h covers st all rest sees typed fits = absurd (none_some (λ b. block_lowered more b.names b.emitted) behind h)
-block_runs (ast.Next (IfOnly at arms) more) names vs env em behind h covers st all rest sees typed fits = absurd (none_some (λ b. block_lowered more b.names b.emitted) behind h)
-block_runs (ast.Next (IfElse at arms other) more) names vs env em behind h covers st all rest sees typed fits = absurd (none_some (λ b. block_lowered more b.names b.emitted) behind h)
-block_runs (ast.Next (ForEach at to range body) more) names vs env em behind h covers st all rest sees typed fits = absurd (none_some (λ b. block_lowered more b.names b.emitted) behind h)
-block_runs (ast.Next (WhileTrue at test body) more) names vs env em behind h covers st all rest sees typed fits = absurd (none_some (λ b. block_lowered more b.names b.emitted) behind h)
-block_runs (ast.Next (BreakOff at) more) names vs env em behind h covers st all rest sees typed fits = absurd (none_some (λ b. block_lowered more b.names b.emitted) behind h)
-block_runs (ast.Next (GoOn at) more) names vs env em behind h covers st all rest sees typed fits = absurd (none_some (λ b. block_lowered more b.names b.emitted) behind h)
+block_runs (ast.Next (Store to opens args e) more) names cx env em behind h covers st all rest sees typed fits = absurd h.1
+block_runs (ast.Next (Multi targets e) more) names cx env em behind h covers st all rest sees typed fits = absurd h.1
+block_runs (ast.Next (IfOnly at arms) more) names cx env em behind h covers st all rest sees typed fits = absurd h.1
+block_runs (ast.Next (IfElse at arms other) more) names cx env em behind h covers st all rest sees typed fits = absurd h.1
+block_runs (ast.Next (ForEach at to range body) more) names cx env em behind h covers st all rest sees typed fits = absurd h.1
+block_runs (ast.Next (WhileTrue at test body) more) names cx env em behind h covers st all rest sees typed fits = absurd h.1
+block_runs (ast.Next (BreakOff at) more) names cx env em behind h covers st all rest sees typed fits = absurd h.1
+block_runs (ast.Next (GoOn at) more) names cx env em behind h covers st all rest sees typed fits = absurd h.1

@@ -6,12 +6,12 @@ use Rattle.num_type.specs.declared.methods.Rounding.TheVariants.{Nearest}
 use Rattle.num_type.specs.declared.methods.Overflow.TheVariants.{Saturate}
 use Rattle.num_type.specs.Types.{NumericType, IsWithin, IsInRange, fraction_least, fraction_most}
 use Rattle.fi_quant.specs.Numbers.{fitted, scaled, quantised}
-use Rattle.fi_math.specs.Full.{full_product, full_sum}
+use Rattle.fi_math.specs.Full.{full_product, full_sum, full_difference}
 use Rattle.fi_math.specs.Made.{Made, Is, Wide, Out, limited}
 use Rattle.fi_math.specs.Made as made
-use Rattle.fi_math.specs.Rules.{mode_type, product_by, sum_by, product_made, add_made}
+use Rattle.fi_math.specs.Rules.{mode_type, product_by, sum_by, product_made, add_made, sub_made}
 use Rattle.fi_math.specs.Govern.{usual}
-use Rattle.fi_eval.specs.Operators.{Sum, Product, type_in, result_type}
+use Rattle.fi_eval.specs.Operators.{Sum, Difference, Product, type_in, result_type}
 use Rattle.scalar_walk.proofs.Ranges.{InRange, Between, pow_mono, pow_step, no_false, widen, signed_between, between_signed, scale_between, add_between}
 
 -- ---- the types
@@ -59,6 +59,12 @@ sum_is a b t e =
     let h = made_is (full_sum a b) t e in
     let P : NumericType → Type 0 = λ u. (t ≡ full_sum a b) × (1 ≤ u.word) × (u.word ≤ 64) × IsWithin u in
     subst P (sym h.0) h
+
+pub difference_within : (a b t : NumericType) → result_type Difference usual a b ≡ Some t → IsWithin t
+unfolding sub_made sum_by mode_type
+difference_within a b t e =
+    let h = made_is (full_difference a b) t e in
+    subst IsWithin (sym h.0) h.3
 
 -- ---- the numbers
 

@@ -10,7 +10,7 @@ use Rattle.num_type.specs.declared.memory.Stop.{Stop}
 use Rattle.num_type.specs.Types.{NumericType}
 use Rattle.mat_ast.specs.declared.tree.Ident.{Ident}
 use Rattle.mat_ast.specs.Tree.{Fun}
-use Rattle.fi_eval.specs.Meaning.{function_named, names_of, start}
+use Rattle.fi_eval.specs.Meaning.{Context, context_of, function_named, names_of, start}
 use Rattle.c_tree.specs.Tree.{Program}
 use Rattle.c_tree.specs.declared.tree.CTree.{CTree}
 use Rattle.scalar_walk.specs.Names.{is_listed}
@@ -118,7 +118,7 @@ header_of f c n = record {
 }
 
 -- a program that is right is one of the file
-pub file_right : (fs : List Fun) (entry : List ℕ) (f : Fun) (ts : List NumericType) (p : Program) (seen : List (List ℕ)) → function_named fs entry ≡ Some f → headers_checked fs [] ≡ Passes seen → length f.inputs ≡ length ts → IsRight f ts p → (g : Fun) → function_named fs entry ≡ Some g → HasNames g → IsProgramOf fs entry (real_slots g.inputs ts) p
-file_right fs entry f ts p seen h c n right g e names =
+pub file_right : (fs : List Fun) (entry : List ℕ) (f : Fun) (ts : List NumericType) (p : Program) (seen : List (List ℕ)) (cx : Context) → function_named fs entry ≡ Some f → context_of fs f ≡ cx → headers_checked fs [] ≡ Passes seen → length f.inputs ≡ length ts → IsRight cx f ts p → (g : Fun) → function_named fs entry ≡ Some g → HasNames g → IsProgramOf fs entry (real_slots g.inputs ts) p
+file_right fs entry f ts p seen cx h here c n right g e names =
     let same : f ≡ g = some_same f g (sym h ∙ e) in
-    subst (λ k. IsProgramOf fs entry (real_slots k.inputs ts) p) same (right fs entry h n (header_of f (checked fs entry f [] seen h c) (subst HasNames (sym same) names)))
+    subst (λ k. IsProgramOf fs entry (real_slots k.inputs ts) p) same (right fs entry h here n (header_of f (checked fs entry f [] seen h c) (subst HasNames (sym same) names)))

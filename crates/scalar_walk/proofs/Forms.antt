@@ -1,24 +1,33 @@
 -- The statements of a program are well formed, and not deep.
-use Rattle.std.proofs.Common.{◌≡◌, ℕ, ◌+◌, ◌^◌, ◌<◌, ◌≤◌, Bool, true, false, not, ◌&&◌, ◌||◌, List, [], ◌∷◌, ◌++◌, length, Some, refl, sym, ap, ◌∙◌, subst, arith, append_assoc, if◌then◌else◌, nat_lt}
-use Rattle.std.specs.Prelude.{slice_get, nat_abs, ◌-ℤ◌, nat_eq}
+use Rattle.std.proofs.Common.{◌≡◌, ℕ, suc, ◌+◌, ◌^◌, ◌<◌, ◌≤◌, Bool, true, false, not, ◌&&◌, ◌||◌, List, [], ◌∷◌, ◌++◌, length, ℤ, Some, refl, sym, ap, ◌∙◌, subst, arith, append_assoc, if◌then◌else◌, nat_lt}
+use Rattle.std.specs.Prelude.{slice_get, nat_abs, ◌-ℤ◌, nat_eq, All}
+use Rattle.std.proofs.lemmas.List.Elements.{All-nil, All-cons}
+use Rattle.mat_ast.specs.declared.tree.UnOp.{UnOp}
+use Rattle.mat_ast.specs.declared.tree.UnOp.TheVariants as un
 use Rattle.mat_ast.specs.Tree as ast
-use Rattle.mat_ast.specs.Tree.{Number, Words, Name, Apply, End, Unary, Post, Range, RangeBy, Paren, Matrix, Assign, Multi, IfOnly, ForEach, WhileTrue, BreakOff, GoOn}
+use Rattle.mat_ast.specs.Tree.{Number, Words, Name, Apply, NoArgs, Whole, Item, End, Unary, Post, Range, RangeBy, Paren, Matrix}
 use Rattle.num_type.specs.Types.{NumericType, IsWithin}
 use Rattle.fi_math.specs.Full.{full_sum}
 use Rattle.fi_math.specs.Govern.{usual}
-use Rattle.fi_eval.specs.Operators.{Work, Sum, Product, Unbuilt, work_of, result_type}
+use Rattle.fi_eval.specs.Operators.{Work, Sum, Difference, Product, Unbuilt, work_of, result_type, Turn, Keep, Negate, Remove}
+use Rattle.fi_eval.specs.Meaning.{Context}
 use Rattle.c_tree.specs.declared.tree.CWord.{CWord}
 use Rattle.c_tree.specs.declared.tree.CWord.TheVariants.{I64, U64}
 use Rattle.c_tree.specs.declared.tree.COp.{COp}
 use Rattle.c_tree.specs.declared.tree.COp.TheVariants as op
-use Rattle.c_tree.specs.Tree.{Exp, Cast, Binary, Sta, Set}
-use Rattle.c_tree.specs.WellFormed.{Scope, type_of_exp, operator_type, cast_type, given, is_one_type, is_fit, loop_counters}
-use Rattle.c_tree.specs.Depth.{exp_depth, sta_depth}
-use Rattle.scalar_walk.specs.Lowered.{Spot, Input, Variable, Operand, Names, Emitted, Low, lowered, set_next, operation, word_for, read, widened, constant, aligned}
+use Rattle.c_tree.specs.Tree.{Exp, Cast, Binary, Sta, Set, Store, If, IfElse, For, While, Break, Continue, Return}
+use Rattle.c_tree.specs.View.{block_of}
+use Rattle.c_tree.specs.WellFormed.{Scope, type_of_exp, operator_type, cast_type, given, is_one_type, is_fit, are_fit, loop_counters}
+use Rattle.c_tree.specs.Depth.{exp_depth, sta_depth, block_depth}
+use Rattle.lower_scalar.specs.Part as part
+use Rattle.lower_scalar.specs.Part.{Part, IsPart, IsTyped, AreInOrder, AreDeclared, deepest, word_for}
+use Rattle.scalar_walk.specs.Lowered.{Spot, Input, Variable, Operand, Names, Emitted, Low, IsLowered, IsOperated, IsTurned, IsSigned, Turns, next_low, with_part, read_operand, operation, read, widened, constant, aligned}
 use Rattle.scalar_walk.proofs.Ranges.{pow_mono, pow_step, pow_pos}
-use Rattle.scalar_walk.proofs.Exact.{product_is, sum_is}
+use Rattle.scalar_walk.proofs.Exact.{product_is, sum_is, difference_within}
 use Rattle.scalar_walk.proofs.Makes.{or_left, or_right}
-use Rattle.scalar_walk.proofs.Runs.{some_of, some_is, adds, rest_of, get_behind}
+use Rattle.scalar_walk.proofs.Runs.{rest_of, get_behind}
+use Rattle.scalar_walk.proofs.Stepped.{declared}
+use Rattle.scalar_walk.proofs.Expressions.{adds, operated_adds, turned_adds, signed_adds}
 
 -- an expression of this type
 abbrev pub HasType : Scope → Exp → CWord → Type 0
@@ -33,7 +42,7 @@ pub record IsGood (sc : Scope) (o : Operand) : Type 0 where
 pub record IsPlain (sc : Scope) (s : Sta) : Type 0 where
   pub fit : is_fit sc false s ≡ true
   pub counters : loop_counters s ≡ []
-  pub shallow : sta_depth s ≤ 20
+  pub shallow : sta_depth s ≤ 200
 
 abbrev pub ArePlain : Scope → List Sta → Type 0
 ArePlain sc [] = Unit {0}
@@ -90,9 +99,9 @@ aligned_typed sc t o up short good = by (nat_eq k 0)
     by false = binary_typed sc op.Mul (widened t.signed o) (constant t.signed (2 ^ k)) (word_for t.signed) (multiplies_word (word_for t.signed))
         (widened_typed sc t.signed o up good) (constant_typed sc t.signed k (omega (arith, short)) (λ e. short))
 
-operation_typed : (sc : Scope) (work : Work) (t : NumericType) (a b : Operand) → result_type work usual a.num b.num ≡ Some t → IsGood sc a → IsGood sc b → HasType sc (operation work t a b) (word_for t.signed) × IsWithin t
+product_typed : (sc : Scope) (t : NumericType) (a b : Operand) → result_type Product usual a.num b.num ≡ Some t → IsGood sc a → IsGood sc b → HasType sc (operation Product t a b) (word_for t.signed) × IsWithin t
 unfolding operation
-operation_typed sc Product t a b e p q =
+product_typed sc t a b e p q =
     let h = product_is a.num b.num t e in
     let s : Bool = a.num.signed || b.num.signed in
     let one = widened_typed sc s a (λ e. or_left a.num.signed b.num.signed e) p in
@@ -101,7 +110,10 @@ operation_typed sc Product t a b e p q =
           (binary_typed sc op.Mul (widened s a) (widened s b) (word_for s) (multiplies_word (word_for s)) one two),
       h.3,
     )
-operation_typed sc Sum t a b e p q =
+
+sum_typed : (sc : Scope) (t : NumericType) (a b : Operand) → result_type Sum usual a.num b.num ≡ Some t → IsGood sc a → IsGood sc b → HasType sc (operation Sum t a b) (word_for t.signed) × IsWithin t
+unfolding operation
+sum_typed sc t a b e p q =
     let h = sum_is a.num b.num t e in
     let u : NumericType = full_sum a.num b.num in
     let lim : u.word ≤ 64 = subst (λ v. v.word ≤ 64) h.0 h.2 in
@@ -113,7 +125,6 @@ operation_typed sc Sum t a b e p q =
           (binary_typed sc op.Add (aligned u a) (aligned u b) (word_for u.signed) (adds_word (word_for u.signed)) one two),
       h.3,
     )
-operation_typed sc Unbuilt t a b e p q = absurd (cc)
 
 -- ---- depths
 
@@ -146,6 +157,7 @@ operation_depth : (work : Work) (t : NumericType) (a b : Operand) → exp_depth 
 unfolding operation
 operation_depth Sum t a b = omega (arith, aligned_depth t a, aligned_depth t b)
 operation_depth Product t a b = omega (arith, widened_depth t.signed a, widened_depth t.signed b)
+operation_depth Difference t a b = omega (arith, read_depth a.spot)
 operation_depth Unbuilt t a b = omega (arith, read_depth a.spot)
 
 -- ---- expressions
@@ -155,7 +167,7 @@ unfolding is_one_type
 one_type I64 = refl
 one_type U64 = refl
 
-set_plain : (sc : Scope) (k : ℕ) (e : Exp) (w : CWord) → slice_get sc.words k ≡ Some w → HasType sc e w → exp_depth e ≤ 6 → IsPlain sc (Set k e)
+set_plain : (sc : Scope) (k : ℕ) (e : Exp) (w : CWord) → slice_get sc.words k ≡ Some w → HasType sc e w → exp_depth e ≤ 200 → IsPlain sc (Set k e)
 set_plain sc k e w here typed deep = record {
   fit = (λ i. is_one_type (here i) (typed i)) ∙ one_type w;
   counters = refl;
@@ -165,39 +177,120 @@ set_plain sc k e w here typed deep = record {
 abbrev pub NamesGood : Scope → Names → Type 0
 NamesGood sc names = (name : List ℕ) (o : Operand) → names name ≡ Some o → IsGood sc o
 
+-- ---- parts
+
+and_parts : (a b : Bool) → (a && b) ≡ true → (a ≡ true) × (b ≡ true)
+and_parts true b e = (refl, e)
+and_parts false b e = absurd (cc)
+
+-- well-formed assignments that aren't deep are plain
+part_plain : (sc : Scope) (k : ℕ) (ss : List Sta) → AreInOrder k ss → are_fit sc false (block_of ss) ≡ true → block_depth (block_of ss) ≤ 200 → ArePlain sc ss
+part_plain sc k [] h fit deep = tt
+part_plain sc k (Set j e ∷ ss) h fit deep =
+    let both = and_parts (is_fit sc false (Set j e)) (are_fit sc false (block_of ss)) fit in (
+      record { fit = both.0; counters = refl; shallow = omega (arith, deep) },
+      part_plain sc (suc k) ss h.2 both.1 (omega (arith, deep)),
+    )
+part_plain sc k (Store array at e ∷ ss) h fit deep = absurd h
+part_plain sc k (If t body ∷ ss) h fit deep = absurd h
+part_plain sc k (IfElse t body other ∷ ss) h fit deep = absurd h
+part_plain sc k (For c count body ∷ ss) h fit deep = absurd h
+part_plain sc k (While t body ∷ ss) h fit deep = absurd h
+part_plain sc k (Break ∷ ss) h fit deep = absurd h
+part_plain sc k (Continue ∷ ss) h fit deep = absurd h
+part_plain sc k (Return status ∷ ss) h fit deep = absurd h
+
+-- what is behind other statements is plain, and its value can be read
+abbrev pub GoodLow : Scope → Low → Type 0
+GoodLow sc low = ArePlain sc low.emitted.sets × IsGood sc low.operand
+
+-- the next variable takes a value
+set_good : (sc : Scope) (t : NumericType) (e : Exp) (em : Emitted) (rest : List CWord) → sc.words ≡ (em.words ++ (word_for t.signed ∷ [])) ++ rest → ArePlain sc em.sets → HasType sc e (word_for t.signed) → exp_depth e ≤ 200 → IsWithin t → GoodLow sc (next_low t e em)
+set_good sc t e em rest fits plain typed deep within =
+    let here : slice_get sc.words (length em.words) ≡ Some (word_for t.signed) =
+    ap (λ ws. slice_get ws (length em.words)) (fits ∙ append_assoc em.words (word_for t.signed ∷ []) rest) ∙ get_behind em.words rest (word_for t.signed) in
+    (plain_append sc em.sets _ plain (set_plain sc (length em.words) e (word_for t.signed) here typed deep, tt), record { typed = here; limits = within })
+
+-- a part, and then its value into the next variable
+part_good : (sc : Scope) (t : NumericType) (p : Part) (os : List part.Operand) (result : List ℤ → ℤ) (em : Emitted) (rest : List CWord) → IsPart os (length em.words) t.signed result p → All (IsTyped sc) os → deepest os ≤ 100 → sc.words ≡ ((em.words ++ p.words) ++ (word_for t.signed ∷ [])) ++ rest → ArePlain sc em.sets → IsWithin t → GoodLow sc (with_part t p em)
+part_good sc t p os result em rest is typed deep fits plain within =
+    let fits_p : sc.words ≡ (em.words ++ p.words) ++ ((word_for t.signed ∷ []) ++ rest) = fits ∙ append_assoc (em.words ++ p.words) (word_for t.signed ∷ []) rest in
+    let have : AreDeclared (length em.words) p.words sc.words = subst (AreDeclared (length em.words) p.words) (sym fits_p) (declared em.words p.words ((word_for t.signed ∷ []) ++ rest)) in
+    let own = part_plain sc (length em.words) p.before is.in_order (is.fits sc have typed) (omega (arith, is.shallow, deep)) in
+    set_good sc t p.value (record { sets = em.sets ++ p.before; words = em.words ++ p.words }) rest fits (plain_append sc em.sets p.before plain own)
+    (is.typed sc have typed) (omega (arith, is.shallow_value, deep)) within
+
+operand_typed : (sc : Scope) (o : Operand) → IsGood sc o → IsTyped sc (read_operand o)
+operand_typed sc o h = record { typed = h.typed }
+
+operated_good : (work : Work) (sc : Scope) (t : NumericType) (a b : Operand) (em : Emitted) (low : Low) (rest : List CWord) → result_type work usual a.num b.num ≡ Some t → IsOperated work t a b em low → sc.words ≡ low.emitted.words ++ rest → ArePlain sc em.sets → IsGood sc a → IsGood sc b → GoodLow sc low
+unfolding IsOperated
+operated_good Sum sc t a b em low rest e h fits plain p q =
+    let o = sum_typed sc t a b e p q in
+    let fits_made : sc.words ≡ (em.words ++ (word_for t.signed ∷ [])) ++ rest = fits ∙ ap (λ l. l.emitted.words ++ rest) h in
+    subst (GoodLow sc) (sym h) (set_good sc t (operation Sum t a b) em rest fits_made plain o.0 (omega (arith, operation_depth Sum t a b)) o.1)
+operated_good Product sc t a b em low rest e h fits plain p q =
+    let o = product_typed sc t a b e p q in
+    let fits_made : sc.words ≡ (em.words ++ (word_for t.signed ∷ [])) ++ rest = fits ∙ ap (λ l. l.emitted.words ++ rest) h in
+    subst (GoodLow sc) (sym h) (set_good sc t (operation Product t a b) em rest fits_made plain o.0 (omega (arith, operation_depth Product t a b)) o.1)
+operated_good Difference sc t a b em low rest e h fits plain p q =
+    let fits_made : sc.words ≡ ((em.words ++ h.own.words) ++ (word_for t.signed ∷ [])) ++ rest = fits ∙ ap (λ l. l.emitted.words ++ rest) h.is in
+    let typed : All (IsTyped sc) (read_operand a ∷ read_operand b ∷ []) =
+    All-cons (IsTyped sc) (read_operand a) (read_operand b ∷ []) (operand_typed sc a p) (All-cons (IsTyped sc) (read_operand b) [] (operand_typed sc b q) (All-nil (IsTyped sc))) in
+    subst (GoodLow sc) (sym h.is)
+    (part_good sc t h.own (read_operand a ∷ read_operand b ∷ []) _ em rest h.subtracts typed (omega (arith, read_depth a.spot, read_depth b.spot)) fits_made plain (difference_within a.num b.num t e))
+operated_good Unbuilt sc t a b em low rest e h fits plain p q = absurd (cc)
+
+turned_good : (turn : Turn) (sc : Scope) (a : Operand) (em : Emitted) (low : Low) (rest : List CWord) → IsTurned turn a em low → sc.words ≡ low.emitted.words ++ rest → ArePlain sc em.sets → IsGood sc a → GoodLow sc low
+unfolding Turns
+turned_good Keep sc a em low rest h fits plain p = absurd h.turns
+turned_good Negate sc a em low rest h fits plain p =
+    let fits_made : sc.words ≡ ((em.words ++ h.own.words) ++ (word_for a.num.signed ∷ [])) ++ rest = fits ∙ ap (λ l. l.emitted.words ++ rest) h.is in
+    let typed : All (IsTyped sc) (read_operand a ∷ []) = All-cons (IsTyped sc) (read_operand a) [] (operand_typed sc a p) (All-nil (IsTyped sc)) in
+    subst (GoodLow sc) (sym h.is) (part_good sc a.num h.own (read_operand a ∷ []) _ em rest h.turns typed (omega (arith, read_depth a.spot)) fits_made plain p.limits)
+turned_good Remove sc a em low rest h fits plain p =
+    let fits_made : sc.words ≡ ((em.words ++ h.own.words) ++ (word_for a.num.signed ∷ [])) ++ rest = fits ∙ ap (λ l. l.emitted.words ++ rest) h.is in
+    let typed : All (IsTyped sc) (read_operand a ∷ []) = All-cons (IsTyped sc) (read_operand a) [] (operand_typed sc a p) (All-nil (IsTyped sc)) in
+    subst (GoodLow sc) (sym h.is) (part_good sc a.num h.own (read_operand a ∷ []) _ em rest h.turns typed (omega (arith, read_depth a.spot)) fits_made plain p.limits)
+
+signed_good : (sign : UnOp) (sc : Scope) (a : Operand) (em : Emitted) (low : Low) (rest : List CWord) → IsSigned sign a em low → sc.words ≡ low.emitted.words ++ rest → ArePlain sc em.sets → IsGood sc a → GoodLow sc low
+unfolding IsSigned
+signed_good un.Plus sc a em low rest h fits plain p = subst (GoodLow sc) (sym h) (plain, p)
+signed_good un.Minus sc a em low rest h fits plain p = turned_good Negate sc a em low rest h fits plain p
+signed_good un.Not sc a em low rest h fits plain p = absurd h
+
+-- ---- expressions
+
 -- what is lowered is plain
-pub lowers_plain : (e : ast.Exp) (names : Names) (em : Emitted) (low : Low) → lowered e names em ≡ Some low → (sc : Scope) (rest : List CWord) → sc.words ≡ low.emitted.words ++ rest → NamesGood sc names → ArePlain sc em.sets → ArePlain sc low.emitted.sets × IsGood sc low.operand
-lowers_plain (Number at text imaginary) names em low h sc rest fits good plain = absurd (cc)
-lowers_plain (Words at text) names em low h sc rest fits good plain = absurd (cc)
-lowers_plain (Name at name) names em low h sc rest fits good plain =
-    let o = some_of (names name) (λ o. Some (record { operand = o; emitted = em })) low h in
-    let same = some_is (record { operand = o.0; emitted = em }) low o.2 in
-    subst (λ l. ArePlain sc l.emitted.sets × IsGood sc l.operand) same (plain, good name o.0 o.1)
-lowers_plain (Apply at name opens args) names em low h sc rest fits good plain = absurd (cc)
-lowers_plain (End at) names em low h sc rest fits good plain = absurd (cc)
-lowers_plain (Unary at sign e) names em low h sc rest fits good plain = absurd (cc)
-lowers_plain (ast.Binary at operator a b) names em low h sc rest fits good plain =
-    let x = some_of (lowered a names em) _ low h in
-    let y = some_of (lowered b names x.0.emitted) _ low x.2 in
-    let t = some_of (result_type (work_of operator) usual x.0.operand.num y.0.operand.num) _ low y.2 in
-    let made = set_next (work_of operator) x.0.operand y.0.operand y.0.emitted t.0 in
-    let same = some_is made low t.2 in
-    let fits_made : sc.words ≡ made.emitted.words ++ rest = fits ∙ ap (λ l. l.emitted.words ++ rest) (sym same) in
-    let more : List CWord = word_for t.0.signed ∷ [] in
-    let fits_y : sc.words ≡ y.0.emitted.words ++ (more ++ rest) = fits_made ∙ append_assoc y.0.emitted.words more rest in
-    let add = adds b names x.0.emitted y.0 y.1 in
-    let fits_x : sc.words ≡ x.0.emitted.words ++ (add.extra ++ (more ++ rest)) = rest_of sc.words x.0.emitted.words add.extra (more ++ rest) y.0.emitted.words fits_y add.words in
-    let p = lowers_plain a names em x.0 x.1 sc (add.extra ++ (more ++ rest)) fits_x good plain in
-    let q = lowers_plain b names x.0.emitted y.0 y.1 sc (more ++ rest) fits_y good p.0 in
-    let here : slice_get sc.words (length y.0.emitted.words) ≡ Some (word_for t.0.signed) =
-    ap (λ ws. slice_get ws (length y.0.emitted.words)) fits_y ∙ get_behind y.0.emitted.words rest (word_for t.0.signed) in
-    let typed = operation_typed sc (work_of operator) t.0 x.0.operand y.0.operand t.1 p.1 q.1 in
-    let stmt = set_plain sc (length y.0.emitted.words) (operation (work_of operator) t.0 x.0.operand y.0.operand) (word_for t.0.signed) here typed.0
-    (operation_depth (work_of operator) t.0 x.0.operand y.0.operand) in
-    subst (λ l. ArePlain sc l.emitted.sets × IsGood sc l.operand) same
-    (plain_append sc y.0.emitted.sets _ q.0 (stmt, tt), record { typed = here; limits = typed.1 })
-lowers_plain (Post at mark e) names em low h sc rest fits good plain = absurd (cc)
-lowers_plain (Range at first last) names em low h sc rest fits good plain = absurd (cc)
-lowers_plain (RangeBy at first step last) names em low h sc rest fits good plain = absurd (cc)
-lowers_plain (Paren at e) names em low h sc rest fits good plain = lowers_plain e names em low h sc rest fits good plain
-lowers_plain (Matrix at rows) names em low h sc rest fits good plain = absurd (cc)
+pub lowers_plain : (e : ast.Exp) (cx : Context) (names : Names) (em : Emitted) (low : Low) → IsLowered e cx names em low → (sc : Scope) (rest : List CWord) → sc.words ≡ low.emitted.words ++ rest → NamesGood sc names → ArePlain sc em.sets → GoodLow sc low
+lowers_plain (Name at name) cx names em low h sc rest fits good plain = subst (GoodLow sc) (sym h.2) (plain, good name h.0 h.1)
+lowers_plain (Unary at sign e) cx names em low h sc rest fits good plain =
+    let add = signed_adds sign h.0.operand h.0.emitted low h.2 in
+    let fits_x : sc.words ≡ h.0.emitted.words ++ (add.extra ++ rest) = rest_of sc.words h.0.emitted.words add.extra rest low.emitted.words fits add.words in
+    let p = lowers_plain e cx names em h.0 h.1 sc (add.extra ++ rest) fits_x good plain in
+    signed_good sign sc h.0.operand h.0.emitted low rest h.2 fits p.0 p.1
+lowers_plain (ast.Binary at operator a b) cx names em low h sc rest fits good plain =
+    let last = operated_adds (work_of operator) h.4 h.0.operand h.2.operand h.2.emitted low h.6 in
+    let fits_y : sc.words ≡ h.2.emitted.words ++ (last.extra ++ rest) = rest_of sc.words h.2.emitted.words last.extra rest low.emitted.words fits last.words in
+    let add = adds b cx names h.0.emitted h.2 h.3 in
+    let fits_x : sc.words ≡ h.0.emitted.words ++ (add.extra ++ (last.extra ++ rest)) = rest_of sc.words h.0.emitted.words add.extra (last.extra ++ rest) h.2.emitted.words fits_y add.words in
+    let p = lowers_plain a cx names em h.0 h.1 sc (add.extra ++ (last.extra ++ rest)) fits_x good plain in
+    let q = lowers_plain b cx names h.0.emitted h.2 h.3 sc (last.extra ++ rest) fits_y good p.0 in
+    operated_good (work_of operator) sc h.4 h.0.operand h.2.operand h.2.emitted low rest h.5 h.6 fits q.0 p.1 q.1
+lowers_plain (Paren at e) cx names em low h sc rest fits good plain = lowers_plain e cx names em low h sc rest fits good plain
+lowers_plain (Apply at name opens (Item e NoArgs)) cx names em low h sc rest fits good plain =
+    let add = turned_adds Remove h.1.operand h.1.emitted low h.3 in
+    let fits_x : sc.words ≡ h.1.emitted.words ++ (add.extra ++ rest) = rest_of sc.words h.1.emitted.words add.extra rest low.emitted.words fits add.words in
+    let p = lowers_plain e cx names em h.1 h.2 sc (add.extra ++ rest) fits_x good plain in
+    turned_good Remove sc h.1.operand h.1.emitted low rest h.3 fits p.0 p.1
+lowers_plain (Number at text imaginary) cx names em low h sc rest fits good plain = absurd h
+lowers_plain (Words at text) cx names em low h sc rest fits good plain = absurd h
+lowers_plain (End at) cx names em low h sc rest fits good plain = absurd h
+lowers_plain (Post at mark e) cx names em low h sc rest fits good plain = absurd h
+lowers_plain (Range at first last) cx names em low h sc rest fits good plain = absurd h
+lowers_plain (RangeBy at first step last) cx names em low h sc rest fits good plain = absurd h
+lowers_plain (Matrix at rows) cx names em low h sc rest fits good plain = absurd h
+lowers_plain (Apply at name opens NoArgs) cx names em low h sc rest fits good plain = absurd h
+lowers_plain (Apply at name opens (Whole more)) cx names em low h sc rest fits good plain = absurd h
+lowers_plain (Apply at name opens (Item e (Whole more))) cx names em low h sc rest fits good plain = absurd h
+lowers_plain (Apply at name opens (Item e (Item f more))) cx names em low h sc rest fits good plain = absurd h

@@ -3,6 +3,8 @@ pub mod Says
 pub mod Exact
 pub mod Makes
 pub mod Runs
+pub mod Stepped
+pub mod Expressions
 pub mod Blocks
 pub mod Starts
 pub mod Forms

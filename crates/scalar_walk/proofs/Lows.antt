@@ -1,35 +1,41 @@
 -- Answers of the code as what is lowered.
-use Rattle.std.proofs.Common.{◌≡◌, ℕ, List, ◌∷◌, drop, ◌+◌, Option, Some, sym, ap, ◌∙◌}
-use Rattle.std.specs.Prelude.{option_map, Result, Ok, Err, IfOk}
+use Rattle.std.proofs.Common.{◌≡◌, ℕ, suc, ◌+◌, ◌≤◌, List, [], ◌∷◌, length, drop, Bool, true, false, Option, Some, sym, ap, ◌∙◌, subst, arith, if◌then◌else◌}
+use Rattle.std.specs.Prelude.{option_map, Result, Ok, Err, IfOk, OnOk, bytes_eq}
 use Rattle.fic_base.specs.declared.refusal.Refusal.{Refusal}
+use Rattle.fic_base.specs.declared.place.Place.{Place}
 use Rattle.num_type.specs.declared.memory.Stop.{Stop}
 use Rattle.num_type.specs.declared.num_type.NumType.{NumType}
 use Rattle.num_type.specs.View.{type_of}
+use Rattle.num_type.specs.Types.{NumericType}
 use Rattle.fi_math.specs.declared.fimath.Fimath.{Fimath}
 use Rattle.fi_math.specs.declared.types.NoType.{NoType}
 use Rattle.fi_math.specs.View.{made_of}
-use Rattle.fi_math.specs.Rules.{add_made, product_made}
-use Rattle.fic_base.specs.declared.place.Place.{Place}
-use Rattle.mat_ast.specs.declared.tree.BinOp.{BinOp}
-use Rattle.mat_ast.specs.Tree as ast
-use Rattle.num_type.specs.Types.{NumericType}
+use Rattle.fi_math.specs.Made.{Is}
+use Rattle.fi_math.specs.Rules.{add_made, sub_made, product_made}
 use Rattle.fi_math.specs.Govern.{usual}
-use Rattle.fi_eval.specs.Operators.{Work, Sum, Product, work_of, result_type, type_in}
+use Rattle.fi_eval.specs.Operators.{Sum, Difference, Product, work_of, result_type, type_in, Turn, Negate, Remove}
+use Rattle.fi_eval.specs.Meaning.{Context, is_abs}
+use Rattle.mat_ast.specs.declared.tree.BinOp.{BinOp}
+use Rattle.mat_ast.specs.declared.tree.UnOp.{UnOp}
+use Rattle.mat_ast.specs.declared.tree.Ident.{Ident}
 use Rattle.mat_ast.specs.declared.tree.Stmt.{Stmt}
 use Rattle.mat_ast.specs.View.{stmt_view, block_view}
+use Rattle.mat_ast.specs.Tree as ast
 use Rattle.c_tree.specs.Tree.{Exp, Program}
+use Rattle.lower_scalar.specs.Part.{Part, reach}
+use Rattle.lower_scalar.specs.Operators.{Subtracts, Negates, TakesSign}
 use Rattle.scalar_walk.specs.declared.operand.Operand as code
 use Rattle.scalar_walk.specs.declared.emitted.Emitted as code_emitted
 use Rattle.scalar_walk.specs.Walk.{with_type}
-use Rattle.scalar_walk.specs.Lowered.{Operand, Emitted, Names, Low, Behind, and_then, lowered, sta_lowered, block_lowered, outputs_lowered, function_lowered, inputs_from, no_names, nothing_emitted, program_of, set_next, next_low, operation}
-use Rattle.scalar_walk.specs.View.{operand_view, emitted_view, low_view, SetsNext}
+use Rattle.scalar_walk.specs.Lowered.{Input, Operand, Emitted, Names, Low, Behind, IsLowered, IsStaLowered, IsBlockLowered, IsFunctionLowered, IsOperated, IsTurned, IsSigned, Turns, outputs_lowered, inputs_from, no_names, nothing_emitted, program_of, next_low, with_part, operation, read, read_operand}
+use Rattle.scalar_walk.specs.View.{operand_view, emitted_view, low_view, IsOperation, AreBelow}
 
 -- a variable that has a value
-pub name_low : (found : Option code.Operand) (named : Option Operand) (x : code.Operand) (em later : code_emitted.Emitted) → found ≡ Some x → option_map operand_view found ≡ named → emitted_view later ≡ emitted_view em → and_then named (λ p. Some (record { operand = p; emitted = emitted_view em })) ≡ Some (low_view x later)
-unfolding and_then
-name_low found named x em later f n e =
-    ap (λ o. and_then o (λ p. Some (record { operand = p; emitted = emitted_view em }))) (sym n ∙ ap (option_map operand_view) f)
-    ∙ ap (λ l. Some (record { operand = operand_view x; emitted = l })) (sym e)
+pub name_low : (found : Option code.Operand) (names : Names) (name : List ℕ) (at : Place) (cx : Context) (x : code.Operand) (em later : code_emitted.Emitted) → found ≡ Some x → option_map operand_view found ≡ names name → emitted_view later ≡ emitted_view em → IsLowered (ast.Name at name) cx names (emitted_view em) (low_view x later)
+name_low found names name at cx x em later f n e = (operand_view x, sym n ∙ ap (option_map operand_view) f, (λ i. record { operand = operand_view x; emitted = e i }))
+
+pub name_below : (found : Option code.Operand) (names : Names) (name : List ℕ) (x : code.Operand) (n : ℕ) → AreBelow names n → found ≡ Some x → option_map operand_view found ≡ names name → reach (read (operand_view x).spot) ≤ n
+name_below found names name x n below f e = below name (operand_view x) (sym e ∙ ap (option_map operand_view) f)
 
 -- the type of a sum or a product that was made
 pub add_found : (m : Fimath) (r : Result NumType NoType) (t : NumType) (a b : NumericType) → m ≡ usual → made_of r ≡ add_made m a b → r ≡ Ok t → result_type Sum usual a b ≡ Some (type_of t)
@@ -40,45 +46,95 @@ pub product_found : (m : Fimath) (r : Result NumType NoType) (t : NumType) (a b 
 unfolding type_in
 product_found m r t a b e h k = ap (λ n. type_in (product_made n a b)) (sym e) ∙ ap type_in (sym h) ∙ ap (λ s. type_in (made_of s)) k
 
+pub difference_found : (m : Fimath) (r : Result NumType NoType) (t : NumType) (a b : NumericType) → m ≡ usual → made_of r ≡ sub_made m a b → r ≡ Ok t → result_type Difference usual a b ≡ Some (type_of t)
+unfolding type_in
+difference_found m r t a b e h k = ap (λ n. type_in (sub_made n a b)) (sym e) ∙ ap type_in (sym h) ∙ ap (λ s. type_in (made_of s)) k
+
+pub difference_made : (m : Fimath) (r : Result NumType NoType) (t : NumType) (a b : NumericType) → made_of r ≡ sub_made m a b → r ≡ Ok t → sub_made m a b ≡ Is (type_of t)
+difference_made m r t a b h k = sym h ∙ ap made_of k
+
 -- the answer of a call that sets the next variable
-pub sets_next : (r : Result code.Operand (Stop Refusal)) (later em : code_emitted.Emitted) (work : Work) (x y : Operand) (t : NumericType) (e : Exp) (before : Emitted) → IfOk r (λ o. low_view o later ≡ next_low t e (emitted_view em)) → result_type work usual x.num y.num ≡ Some t → e ≡ operation work t x y → emitted_view em ≡ before → IfOk r (λ o. SetsNext work x y before (low_view o later))
-sets_next (Ok o) later em work x y t e before h type value same = (t, type, h ∙ (λ i. next_low t (value i) (same i)))
-sets_next (Err s) later em work x y t e before h type value same = tt
+pub sets_sum : (o : code.Operand) (later em : code_emitted.Emitted) (x y : Operand) (t : NumericType) (e : Exp) (before : Emitted) → low_view o later ≡ next_low t e (emitted_view em) → result_type Sum usual x.num y.num ≡ Some t → e ≡ operation Sum t x y → emitted_view em ≡ before → IsOperation Sum x y before (low_view o later)
+unfolding IsOperated
+sets_sum o later em x y t e before h type value same = (t, type, h ∙ (λ i. next_low t (value i) (same i)))
+
+pub sets_product : (o : code.Operand) (later em : code_emitted.Emitted) (x y : Operand) (t : NumericType) (e : Exp) (before : Emitted) → low_view o later ≡ next_low t e (emitted_view em) → result_type Product usual x.num y.num ≡ Some t → e ≡ operation Product t x y → emitted_view em ≡ before → IsOperation Product x y before (low_view o later)
+unfolding IsOperated
+sets_product o later em x y t e before h type value same = (t, type, h ∙ (λ i. next_low t (value i) (same i)))
+
+-- the answer of a call that adds a part
+pub sets_difference : (o : code.Operand) (later em : code_emitted.Emitted) (x y : Operand) (t : NumericType) (p : Part) (m : Fimath) (ea eb : Exp) (fresh : ℕ) (before : Emitted) → low_view o later ≡ with_part t p (emitted_view em) → result_type Difference usual x.num y.num ≡ Some t → Subtracts m t (record { num = x.num; exp = ea }) (record { num = y.num; exp = eb }) fresh p → m ≡ usual → ea ≡ read x.spot → eb ≡ read y.spot → fresh ≡ length em.words → emitted_view em ≡ before → IsOperation Difference x y before (low_view o later)
+unfolding IsOperated
+sets_difference o later em x y t p m ea eb fresh before h type is usual_m left right at same =
+    let here : fresh ≡ length before.words = at ∙ ap (λ (b : Emitted). length b.words) same in
+    let one : Subtracts usual t (record { num = x.num; exp = ea }) (record { num = y.num; exp = eb }) fresh p = subst (λ u. Subtracts u t (record { num = x.num; exp = ea }) (record { num = y.num; exp = eb }) fresh p) usual_m is in
+    let two : Subtracts usual t (read_operand x) (record { num = y.num; exp = eb }) fresh p = subst (λ e. Subtracts usual t (record { num = x.num; exp = e }) (record { num = y.num; exp = eb }) fresh p) left one in
+    let three : Subtracts usual t (read_operand x) (read_operand y) fresh p = subst (λ e. Subtracts usual t (read_operand x) (record { num = y.num; exp = e }) fresh p) right two in
+    (t, type, record { own = p; subtracts = subst (λ k. Subtracts usual t (read_operand x) (read_operand y) k p) here three; is = h ∙ ap (with_part t p) same })
+
+-- a part that turns the sign of what it reads
+pub negates_turns : (x : Operand) (p : Part) (m : Fimath) (e : Exp) (fresh n : ℕ) → Negates m x.num e fresh p → m ≡ usual → e ≡ read x.spot → fresh ≡ n → Turns Negate x n p
+unfolding Turns
+negates_turns x p m e fresh n is usual_m same at =
+    subst (λ k. Negates usual x.num (read x.spot) k p) at (subst (λ f. Negates usual x.num f fresh p) same (subst (λ u. Negates u x.num e fresh p) usual_m is))
+
+pub sizes_turns : (x : Operand) (p : Part) (m : Fimath) (e : Exp) (fresh n : ℕ) → TakesSign m x.num e fresh p → m ≡ usual → e ≡ read x.spot → fresh ≡ n → Turns Remove x n p
+unfolding Turns
+sizes_turns x p m e fresh n is usual_m same at =
+    subst (λ k. TakesSign usual x.num (read x.spot) k p) at (subst (λ f. TakesSign usual x.num f fresh p) same (subst (λ u. TakesSign u x.num e fresh p) usual_m is))
+
+pub sets_turned : (o : code.Operand) (later em : code_emitted.Emitted) (turn : Turn) (x : Operand) (p : Part) (fresh : ℕ) (before : Emitted) → low_view o later ≡ with_part x.num p (emitted_view em) → Turns turn x fresh p → fresh ≡ length em.words → emitted_view em ≡ before → IsTurned turn x before (low_view o later)
+sets_turned o later em turn x p fresh before h is at same =
+    let here : fresh ≡ length before.words = at ∙ ap (λ (b : Emitted). length b.words) same in
+    record { own = p; turns = subst (λ k. Turns turn x k p) here is; is = h ∙ ap (with_part x.num p) same }
 
 -- a binary operator behind its operands
-pub binary_low : (e : ast.Exp) (at : Place) (operator : BinOp) (a b : ast.Exp) (names : Names) (em : Emitted) (x y : Low) (r : Result code.Operand (Stop Refusal)) (later : code_emitted.Emitted) → e ≡ ast.Binary at operator a b → lowered a names em ≡ Some x → lowered b names x.emitted ≡ Some y → IfOk r (λ o. SetsNext (work_of operator) x.operand y.operand y.emitted (low_view o later)) → IfOk r (λ o. lowered e names em ≡ Some (low_view o later))
-unfolding and_then
-binary_low e at operator a b names em x y (Ok o) later h p q s =
-    ap (λ t. lowered t names em) h
-    ∙ ap (λ m. and_then m (λ x. and_then (lowered b names x.emitted) (λ y. and_then (result_type (work_of operator) usual x.operand.num y.operand.num) (λ t. Some (set_next (work_of operator) x.operand y.operand y.emitted t))))) p
-    ∙ ap (λ m. and_then m (λ y. and_then (result_type (work_of operator) usual x.operand.num y.operand.num) (λ t. Some (set_next (work_of operator) x.operand y.operand y.emitted t)))) q
-    ∙ ap (λ m. and_then m (λ t. Some (set_next (work_of operator) x.operand y.operand y.emitted t))) s.1
-    ∙ ap Some (sym s.2)
-binary_low e at operator a b names em x y (Err s) later h p q k = tt
+pub binary_low : (e : ast.Exp) (cx : Context) (at : Place) (operator : BinOp) (a b : ast.Exp) (names : Names) (em : Emitted) (x y : Low) (r : Result code.Operand (Stop Refusal)) (later : code_emitted.Emitted) → e ≡ ast.Binary at operator a b → IsLowered a cx names em x → IsLowered b cx names x.emitted y → IfOk r (λ o. IsOperation (work_of operator) x.operand y.operand y.emitted (low_view o later)) → IfOk r (λ o. IsLowered e cx names em (low_view o later))
+binary_low e cx at operator a b names em x y (Ok o) later h p q s = subst (λ t. IsLowered t cx names em (low_view o later)) (sym h) (x, p, y, q, s.0, s.1, s.2)
+binary_low e cx at operator a b names em x y (Err s) later h p q k = tt
 
-abbrev pub behind_some : Names → Emitted → Option Behind
-behind_some names em = Some (record { names = names; emitted = em })
+-- a sign before its operand
+pub sign_low : (sign : UnOp) (cx : Context) (at : Place) (e : ast.Exp) (names : Names) (em : Emitted) (x : Low) (r : Result code.Operand (Stop Refusal)) (later : code_emitted.Emitted) → IsLowered e cx names em x → IfOk r (λ o. IsSigned sign x.operand x.emitted (low_view o later)) → IfOk r (λ o. IsLowered (ast.Unary at sign e) cx names em (low_view o later))
+sign_low sign cx at e names em x (Ok o) later p s = (x, p, s)
+sign_low sign cx at e names em x (Err s) later p k = tt
+
+-- a call of abs behind its argument
+pub call_low : (cx : Context) (at : Place) (name : List ℕ) (opens : Place) (e : ast.Exp) (names : Names) (em : Emitted) (x : Low) (r : Result code.Operand (Stop Refusal)) (later : code_emitted.Emitted) → IsLowered e cx names em x → OnOk r (is_abs cx name ≡ true) → IfOk r (λ o. IsTurned Remove x.operand x.emitted (low_view o later)) → IfOk r (λ o. IsLowered (ast.Apply at name opens (ast.Item e ast.NoArgs)) cx names em (low_view o later))
+call_low cx at name opens e names em x (Ok o) later p is s = (is, x, p, s)
+call_low cx at name opens e names em x (Err s) later p is k = tt
+
+-- ---- what stands below the next variable
+
+pub below_more : (names : Names) (m n : ℕ) → m ≤ n → AreBelow names m → AreBelow names n
+below_more names m n h below name o e = omega (arith, h, below name o e)
+
+pub below_with : (names : Names) (to : List ℕ) (x : Operand) (n : ℕ) → AreBelow names n → reach (read x.spot) ≤ n → AreBelow (with_type names to x) n
+below_with names to x n below under name o e = by (bytes_eq to name) e
+  where
+    by : (b : Bool) → (if b then Some x else names name) ≡ Some o → reach (read o.spot) ≤ n
+    by true e = let same : x ≡ o = cc in subst (λ p. reach (read p.spot) ≤ n) same under
+    by false e = below name o e
+
+pub inputs_below : (k : ℕ) (is : List Ident) (ts : List NumericType) (names : Names) → AreBelow names 0 → AreBelow (inputs_from k is ts names) 0
+inputs_below k [] ts names h = h
+inputs_below k (i ∷ is) [] names h = h
+inputs_below k (i ∷ is) (t ∷ ts) names h = inputs_below (suc k) is ts (with_type names i.text (record { spot = Input k; num = t })) (below_with names i.text (record { spot = Input k; num = t }) 0 h (omega arith))
+
+pub none_below : AreBelow no_names 0
+none_below name o e = absurd (cc)
+
+-- ---- statements
 
 -- an assignment of what was lowered
-pub assign_low : (found : Option Low) (x : Low) (names later : Names) (to bytes : List ℕ) → found ≡ Some x → later ≡ with_type names bytes x.operand → bytes ≡ to → and_then found (λ y. behind_some (with_type names to y.operand) y.emitted) ≡ behind_some later x.emitted
-unfolding and_then
-assign_low found x names later to bytes f l b =
-    ap (λ o. and_then o (λ y. behind_some (with_type names to y.operand) y.emitted)) f
-    ∙ ap (λ n. behind_some n x.emitted) (sym (l ∙ ap (λ t. with_type names t x.operand) b))
+pub assign_low : (e : ast.Exp) (cx : Context) (em : Emitted) (to : Ident) (x : Low) (names later : Names) (bytes : List ℕ) → IsLowered e cx names em x → later ≡ with_type names bytes x.operand → bytes ≡ to.text → IsStaLowered (ast.Assign to e) cx names em (record { names = later; emitted = x.emitted })
+assign_low e cx em to x names later bytes f l b = (x, f, (λ i. record { names = (l ∙ ap (λ t. with_type names t x.operand) b) i; emitted = x.emitted }))
 
 -- a block from a statement on
-pub block_low : (k : ℕ) (b : List Stmt) (s : Stmt) (names : Names) (em : Emitted) (behind : Behind) → drop k b ≡ s ∷ drop (k + 1) b → sta_lowered (stmt_view s) names em ≡ Some behind → block_lowered (block_view (drop k b)) names em ≡ block_lowered (block_view (drop (k + 1) b)) behind.names behind.emitted
-unfolding and_then
-block_low k b s names em behind p h =
-    ap (λ l. block_lowered (block_view l) names em) p
-    ∙ ap (λ m. and_then m (λ x. block_lowered (block_view (drop (k + 1) b)) x.names x.emitted)) h
+pub block_low : (k : ℕ) (b : List Stmt) (s : Stmt) (cx : Context) (names : Names) (em : Emitted) (behind end : Behind) → drop k b ≡ s ∷ drop (k + 1) b → IsStaLowered (stmt_view s) cx names em behind → IsBlockLowered (block_view (drop (k + 1) b)) cx behind.names behind.emitted end → IsBlockLowered (block_view (drop k b)) cx names em end
+block_low k b s cx names em behind end p h g = subst (λ l. IsBlockLowered (block_view l) cx names em end) (sym p) (behind, h, g)
 
 -- a function whose parts were lowered
-pub function_low : (f : ast.Fun) (ts : List NumericType) (none names : Names) (nothing : Emitted) (behind : Behind) (outs : List Operand) (p : Program) → none ≡ no_names → names ≡ inputs_from 0 f.inputs ts none → nothing ≡ nothing_emitted → block_lowered f.body names nothing ≡ Some behind → outputs_lowered f.outputs behind.names ≡ Some outs → p ≡ program_of f ts behind.emitted outs → function_lowered f ts ≡ Some p
-unfolding and_then
-function_low f ts none names nothing behind outs p n i e b o h =
-    (λ j. and_then (block_lowered f.body (inputs_from 0 f.inputs ts (sym n j)) (sym e j)) (λ b. and_then (outputs_lowered f.outputs b.names) (λ outs. Some (program_of f ts b.emitted outs))))
-    ∙ ap (λ l. and_then (block_lowered f.body l nothing) (λ b. and_then (outputs_lowered f.outputs b.names) (λ outs. Some (program_of f ts b.emitted outs)))) (sym i)
-    ∙ ap (λ m. and_then m (λ b. and_then (outputs_lowered f.outputs b.names) (λ outs. Some (program_of f ts b.emitted outs)))) b
-    ∙ ap (λ m. and_then m (λ outs. Some (program_of f ts behind.emitted outs))) o
-    ∙ ap Some (sym h)
+pub function_low : (cx : Context) (f : ast.Fun) (ts : List NumericType) (none names : Names) (nothing : Emitted) (behind : Behind) (outs : List Operand) (p : Program) → none ≡ no_names → names ≡ inputs_from 0 f.inputs ts none → nothing ≡ nothing_emitted → IsBlockLowered f.body cx names nothing behind → outputs_lowered f.outputs behind.names ≡ Some outs → p ≡ program_of f ts behind.emitted outs → IsFunctionLowered cx f ts p
+function_low cx f ts none names nothing behind outs p n i e b o h =
+    let start : names ≡ inputs_from 0 f.inputs ts no_names = i ∙ ap (inputs_from 0 f.inputs ts) n in
+    record { behind = behind; body = subst (λ m. IsBlockLowered f.body cx m nothing_emitted behind) start (subst (λ m. IsBlockLowered f.body cx names m behind) e b); outs = outs; outputs = o; is = sym h }

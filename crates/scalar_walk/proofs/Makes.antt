@@ -10,7 +10,7 @@ use Rattle.fi_quant.specs.Numbers.{fitted, quantised}
 use Rattle.fi_math.specs.Full.{full_product, full_sum, aligned_word}
 use Rattle.fi_math.specs.Govern.{usual}
 use Rattle.fi_ops.specs.Operations.{taken, multiplied, joined}
-use Rattle.fi_eval.specs.Operators.{Work, Sum, Product, Unbuilt, result_type, element}
+use Rattle.fi_eval.specs.Operators.{Work, Sum, Product, result_type, element}
 use Rattle.c_tree.specs.declared.tree.COp.TheVariants as op
 use Rattle.c_tree.specs.Tree.{Binary}
 use Rattle.c_tree.specs.Meaning.{State}
@@ -122,13 +122,14 @@ sum_made_of a b x y st lim ha hb inside =
       limits = inside;
     }
 
-pub makes : (work : Work) (t : NumericType) (a b : Operand) (x y : ℤ) (st : State) → result_type work usual a.num b.num ≡ Some t → Stands st a x → Stands st b y → Made work t a b x y st
-makes Product t a b x y st e ha hb =
+pub makes_product : (t : NumericType) (a b : Operand) (x y : ℤ) (st : State) → result_type Product usual a.num b.num ≡ Some t → Stands st a x → Stands st b y → Made Product t a b x y st
+makes_product t a b x y st e ha hb =
     let h = product_is a.num b.num t e in
     let w : (full_product a.num b.num).word ≤ 64 = subst (λ u. u.word ≤ 64) h.0 h.2 in
     subst (λ u. Made Product u a b x y st) (sym h.0) (product_made_of a b x y st w ha hb (subst IsWithin h.0 h.3))
-makes Sum t a b x y st e ha hb =
+
+pub makes_sum : (t : NumericType) (a b : Operand) (x y : ℤ) (st : State) → result_type Sum usual a.num b.num ≡ Some t → Stands st a x → Stands st b y → Made Sum t a b x y st
+makes_sum t a b x y st e ha hb =
     let h = sum_is a.num b.num t e in
     let w : (full_sum a.num b.num).word ≤ 64 = subst (λ u. u.word ≤ 64) h.0 h.2 in
     subst (λ u. Made Sum u a b x y st) (sym h.0) (sum_made_of a b x y st w ha hb (subst IsWithin h.0 h.3))
-makes Unbuilt t a b x y st e ha hb = absurd (cc)

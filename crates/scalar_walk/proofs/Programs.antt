@@ -9,7 +9,7 @@ use Rattle.mat_ast.specs.Tree as ast
 use Rattle.mat_ast.specs.Tree.{Assign, Store as StoreAt, Multi, IfOnly, IfElse, ForEach, WhileTrue, BreakOff, GoOn, Fun}
 use Rattle.num_type.specs.Types.{NumericType, IsWithin}
 use Rattle.shape_rules.specs.Shapes.{IsShape}
-use Rattle.fi_eval.specs.Meaning.{names_of}
+use Rattle.fi_eval.specs.Meaning.{Context, names_of}
 use Rattle.c_tree.specs.declared.tree.CWord.{CWord}
 use Rattle.c_tree.specs.declared.tree.CWord.TheVariants.{I64, U64}
 use Rattle.c_tree.specs.declared.tree.CArray.TheVariants as array
@@ -21,9 +21,10 @@ use Rattle.c_tree.specs.Names.{container_for, slot_arrays, input_fronts, output_
 use Rattle.c_tree.specs.WellFormed.{Scope, IsSlot, AreNamedApart, element_type, given, is_one_type, are_fit, all_loop_counters, last_is_return}
 use Rattle.c_tree.specs.Depth.{exp_depth, block_depth}
 use Rattle.scalar_walk.specs.Walk.{with_type}
-use Rattle.scalar_walk.specs.Lowered.{Spot, Input, Variable, Operand, Names, Emitted, Behind, and_then, lowered, sta_lowered, block_lowered, outputs_lowered, stores_from, inputs_from, real_slot, real_slots, word_for, read}
+use Rattle.lower_scalar.specs.Part.{word_for}
+use Rattle.scalar_walk.specs.Lowered.{Spot, Input, Variable, Operand, Names, Emitted, Behind, and_then, IsBlockLowered, outputs_lowered, stores_from, inputs_from, real_slot, real_slots, read}
 use Rattle.scalar_walk.proofs.Runs.{rest_of, some_of, some_is}
-use Rattle.scalar_walk.proofs.Blocks.{block_adds, none_some}
+use Rattle.scalar_walk.proofs.Blocks.{block_adds}
 use Rattle.scalar_walk.proofs.Starts.{nums_of, container_sign}
 use Rattle.scalar_walk.proofs.Forms.{HasType, IsGood, IsPlain, ArePlain, NamesGood, lowers_plain}
 
@@ -98,29 +99,28 @@ inputs_good (i ∷ is) (t ∷ ts) k names sc e within good =
 
 -- ---- blocks
 
-pub block_plain : (b : ast.Block) (names : Names) (em : Emitted) (behind : Behind) → block_lowered b names em ≡ Some behind → (sc : Scope) (rest : List CWord) → sc.words ≡ behind.emitted.words ++ rest → NamesGood sc names → ArePlain sc em.sets → ArePlain sc behind.emitted.sets × NamesGood sc behind.names
-block_plain ast.Done names em behind h sc rest fits good plain =
-    let same = some_is (record { names = names; emitted = em }) behind h in
-    subst (λ l. ArePlain sc l.emitted.sets × NamesGood sc l.names) same (plain, good)
-block_plain (ast.Next (Assign to e) more) names em behind h sc rest fits good plain =
-    let y = some_of (sta_lowered (Assign to e) names em) (λ b. block_lowered more b.names b.emitted) behind h in
-    let x = some_of (lowered e names em) (λ x. Some (record { names = with_type names to.text x.operand; emitted = x.emitted })) y.0 y.1 in
-    let same = some_is (record { names = with_type names to.text x.0.operand; emitted = x.0.emitted }) y.0 x.2 in
-    let add = block_adds more y.0.names y.0.emitted behind y.2 in
-    let fits_y : sc.words ≡ y.0.emitted.words ++ (add.extra ++ rest) = rest_of sc.words y.0.emitted.words add.extra rest behind.emitted.words fits add.words in
-    let fits_x : sc.words ≡ x.0.emitted.words ++ (add.extra ++ rest) = fits_y ∙ ap (λ l. l.emitted.words ++ (add.extra ++ rest)) (sym same) in
-    let p = lowers_plain e names em x.0 x.1 sc (add.extra ++ rest) fits_x good plain in
-    let p_y : ArePlain sc y.0.emitted.sets × NamesGood sc y.0.names =
-    subst (λ l. ArePlain sc l.emitted.sets × NamesGood sc l.names) same (p.0, named_good sc names to.text x.0.operand p.1 good) in
-    block_plain more y.0.names y.0.emitted behind y.2 sc rest fits p_y.1 p_y.0
-block_plain (ast.Next (StoreAt to opens args e) more) names em behind h sc rest fits good plain = absurd (none_some (λ b. block_lowered more b.names b.emitted) behind h)
-block_plain (ast.Next (Multi targets e) more) names em behind h sc rest fits good plain = absurd (none_some (λ b. block_lowered more b.names b.emitted) behind h)
-block_plain (ast.Next (IfOnly at arms) more) names em behind h sc rest fits good plain = absurd (none_some (λ b. block_lowered more b.names b.emitted) behind h)
-block_plain (ast.Next (IfElse at arms other) more) names em behind h sc rest fits good plain = absurd (none_some (λ b. block_lowered more b.names b.emitted) behind h)
-block_plain (ast.Next (ForEach at to range body) more) names em behind h sc rest fits good plain = absurd (none_some (λ b. block_lowered more b.names b.emitted) behind h)
-block_plain (ast.Next (WhileTrue at test body) more) names em behind h sc rest fits good plain = absurd (none_some (λ b. block_lowered more b.names b.emitted) behind h)
-block_plain (ast.Next (BreakOff at) more) names em behind h sc rest fits good plain = absurd (none_some (λ b. block_lowered more b.names b.emitted) behind h)
-block_plain (ast.Next (GoOn at) more) names em behind h sc rest fits good plain = absurd (none_some (λ b. block_lowered more b.names b.emitted) behind h)
+pub block_plain : (b : ast.Block) (cx : Context) (names : Names) (em : Emitted) (behind : Behind) → IsBlockLowered b cx names em behind → (sc : Scope) (rest : List CWord) → sc.words ≡ behind.emitted.words ++ rest → NamesGood sc names → ArePlain sc em.sets → ArePlain sc behind.emitted.sets × NamesGood sc behind.names
+block_plain ast.Done cx names em behind h sc rest fits good plain =
+    subst (λ l. ArePlain sc l.emitted.sets × NamesGood sc l.names) (sym h) (plain, good)
+block_plain (ast.Next (Assign to e) more) cx names em behind h sc rest fits good plain =
+    let y = h.0 in
+    let x = h.1.0 in
+    let same = sym h.1.2 in
+    let add = block_adds more cx y.names y.emitted behind h.2 in
+    let fits_y : sc.words ≡ y.emitted.words ++ (add.extra ++ rest) = rest_of sc.words y.emitted.words add.extra rest behind.emitted.words fits add.words in
+    let fits_x : sc.words ≡ x.emitted.words ++ (add.extra ++ rest) = fits_y ∙ ap (λ l. l.emitted.words ++ (add.extra ++ rest)) (sym same) in
+    let p = lowers_plain e cx names em x h.1.1 sc (add.extra ++ rest) fits_x good plain in
+    let p_y : ArePlain sc y.emitted.sets × NamesGood sc y.names =
+    subst (λ l. ArePlain sc l.emitted.sets × NamesGood sc l.names) same (p.0, named_good sc names to.text x.operand p.1 good) in
+    block_plain more cx y.names y.emitted behind h.2 sc rest fits p_y.1 p_y.0
+block_plain (ast.Next (StoreAt to opens args e) more) cx names em behind h sc rest fits good plain = absurd h.1
+block_plain (ast.Next (Multi targets e) more) cx names em behind h sc rest fits good plain = absurd h.1
+block_plain (ast.Next (IfOnly at arms) more) cx names em behind h sc rest fits good plain = absurd h.1
+block_plain (ast.Next (IfElse at arms other) more) cx names em behind h sc rest fits good plain = absurd h.1
+block_plain (ast.Next (ForEach at to range body) more) cx names em behind h sc rest fits good plain = absurd h.1
+block_plain (ast.Next (WhileTrue at test body) more) cx names em behind h sc rest fits good plain = absurd h.1
+block_plain (ast.Next (BreakOff at) more) cx names em behind h sc rest fits good plain = absurd h.1
+block_plain (ast.Next (GoOn at) more) cx names em behind h sc rest fits good plain = absurd h.1
 
 -- ---- the stores
 
@@ -174,7 +174,7 @@ pub plain_counters : (sc : Scope) (ss : List Sta) → ArePlain sc ss → all_loo
 plain_counters sc [] h = refl
 plain_counters sc (s ∷ ss) h = (λ i. h.0.counters i ++ plain_counters sc ss h.1 i)
 
-pub plain_shallow : (sc : Scope) (ss : List Sta) → ArePlain sc ss → block_depth (block_of ss) ≤ 20
+pub plain_shallow : (sc : Scope) (ss : List Sta) → ArePlain sc ss → block_depth (block_of ss) ≤ 200
 plain_shallow sc [] h = omega arith
 plain_shallow sc (s ∷ ss) h = omega (arith, h.0.shallow, plain_shallow sc ss h.1)
 

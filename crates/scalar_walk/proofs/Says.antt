@@ -10,13 +10,13 @@ use Rattle.c_tree.specs.Tree.{Exp, Cast, Binary}
 use Rattle.c_tree.specs.Tokens.{tokens}
 use Rattle.c_tree.specs.Outcome.{Gives, UndefinedAt, ◌>>=◌, bind, choose, when◌then◌else◌, found_at}
 use Rattle.c_tree.specs.Meaning.{Word, Int64, Uint64, Cells, State, value, operated, converted, element, loaded, signed_at, unsigned, fits_signed}
+use Rattle.lower_scalar.specs.Part.{word}
 use Rattle.scalar_walk.specs.Lowered.{Spot, Input, Variable, Operand, read, widened, constant}
 use Rattle.scalar_walk.proofs.Ranges.{InRange, pow_mono, no_false, widen, signed_between, between_signed}
 
 -- a stored integer as a word
 abbrev pub word_z : Bool → ℤ → Word
-word_z true z = Int64 z
-word_z false z = Uint64 (unsigned_abs z)
+word_z = word
 
 -- the integer stands at a spot
 abbrev pub At : State → Spot → Bool → ℤ → Type 0

@@ -12,7 +12,7 @@ use Rattle.num_type.specs.Types.{NumericType, IsWithin, IsInRange}
 use Rattle.fi_eval.specs.Outcome as got
 use Rattle.fi_eval.specs.Value.{Val, Fi, scalar}
 use Rattle.fi_eval.specs.Meaning as source
-use Rattle.fi_eval.specs.Meaning.{Env, Variables, look_up, is_variable, names_of, bound}
+use Rattle.fi_eval.specs.Meaning.{Env, Context, look_up, is_variable, names_of, bound}
 use Rattle.c_tree.specs.declared.tree.CArray.TheVariants as array
 use Rattle.c_tree.specs.Tree.{Signed, Sta, Store}
 use Rattle.c_tree.specs.Names.{container_for, slot_arrays, input_fronts, output_fronts}
@@ -27,7 +27,8 @@ use Rattle.scalar_walk.specs.Correspondence.{arrays_of, AreInputs, AreFilled}
 use Rattle.scalar_walk.proofs.Ranges.{InRange, in_range_cases, pow_mono, no_false, signed_between, widen, between_signed}
 use Rattle.scalar_walk.proofs.Says.{At, word_z, read_says, mod_small}
 use Rattle.scalar_walk.proofs.Makes.{Stands}
-use Rattle.scalar_walk.proofs.Runs.{RunsTo, runs_nothing, runs_both, Sees, fi_of, some_of, some_is}
+use Rattle.scalar_walk.proofs.Runs.{RunsTo, runs_nothing, runs_both, some_of, some_is}
+use Rattle.scalar_walk.proofs.Expressions.{Sees, fi_of}
 use Rattle.scalar_walk.proofs.Blocks.{Covers, any_front, any_behind, sees_assigned}
 
 -- ---- containers
@@ -79,28 +80,28 @@ one_of [] h = absurd (omega (arith, h))
 one_of (x ∷ []) h = (x, refl)
 one_of (x ∷ y ∷ xs) h = absurd (omega (arith, h))
 
-sees_input : (names : Names) (vs : Variables) (env : Env) (st : State) (k : ℕ) (pre : List Cells) (name : List ℕ) (t : NumericType) (z : ℤ) (rest : List Cells) → length pre ≡ k → IsWithin t → IsInRange t z → st.inputs ≡ pre ++ (record { container = container_for t.signed t.word; items = z ∷ [] } ∷ rest) → Covers vs (name ∷ []) → Sees names vs env st 0 → Sees (with_type names name (record { spot = Input k; num = t })) vs ((name, fi_of t z) ∷ env) st 0
-sees_input names vs env st k pre name t z rest at within range e covers sees =
+sees_input : (names : Names) (cx : Context) (env : Env) (st : State) (k : ℕ) (pre : List Cells) (name : List ℕ) (t : NumericType) (z : ℤ) (rest : List Cells) → length pre ≡ k → IsWithin t → IsInRange t z → st.inputs ≡ pre ++ (record { container = container_for t.signed t.word; items = z ∷ [] } ∷ rest) → Covers cx (name ∷ []) → Sees names cx env st 0 → Sees (with_type names name (record { spot = Input k; num = t })) cx ((name, fi_of t z) ∷ env) st 0
+sees_input names cx env st k pre name t z rest at within range e covers sees =
     let c : Cells = record { container = container_for t.signed t.word; items = z ∷ [] } in
     let here : slice_get st.inputs k ≡ Some c = (λ i. slice_get (e i) (sym at i)) ∙ get_middle pre c rest in
     let o : Operand = record { spot = Input k; num = t } in
     let stands : Stands st o z = record { range = in_range_cases t.signed t.word t.fraction z range; limits = within; at = (c, here, refl, container_sign t.signed t.word) } in
-    sees_assigned names vs env st 0 name o z covers stands tt sees
+    sees_assigned names cx env st 0 name o z covers stands tt sees
 
-covers_head : (vs : Variables) (name : List ℕ) (names : List (List ℕ)) → Covers vs (name ∷ names) → Covers vs (name ∷ [])
-covers_head vs name names covers n q = covers n (any_front (λ other. bytes_eq other n) (name ∷ []) names q)
+covers_head : (cx : Context) (name : List ℕ) (names : List (List ℕ)) → Covers cx (name ∷ names) → Covers cx (name ∷ [])
+covers_head cx name names covers n q = covers n (any_front (λ other. bytes_eq other n) (name ∷ []) names q)
 
-covers_tail : (vs : Variables) (name : List ℕ) (names : List (List ℕ)) → Covers vs (name ∷ names) → Covers vs names
-covers_tail vs name names covers n q = covers n (any_behind (λ other. bytes_eq other n) (name ∷ []) names q)
+covers_tail : (cx : Context) (name : List ℕ) (names : List (List ℕ)) → Covers cx (name ∷ names) → Covers cx names
+covers_tail cx name names covers n q = covers n (any_behind (λ other. bytes_eq other n) (name ∷ []) names q)
 
 -- the inputs of a call stand in the arrays of the inputs
-pub inputs_see : (is : List Ident) (ts : List NumericType) (vals : List Val) (k : ℕ) (pre : List Cells) (names : Names) (vs : Variables) (env : Env) (st : State) → length pre ≡ k → length is ≡ length ts → AreInputs (real_slots is ts) vals → All IsWithin ts → st.inputs ≡ pre ++ filled (flat_map (slot_arrays input_fronts) (real_slots is ts)) (flat_map arrays_of vals) → Covers vs (names_of is) → Sees names vs env st 0 → (after : Env) × (bound is vals env ≡ Some after) × Sees (inputs_from k is ts names) vs after st 0
-inputs_see [] [] [] k pre names vs env st at same h within e covers sees = (env, refl, sees)
-inputs_see [] [] (v ∷ vals) k pre names vs env st at same h within e covers sees = absurd h
-inputs_see [] (t ∷ ts) vals k pre names vs env st at same h within e covers sees = absurd (omega (arith, same))
-inputs_see (i ∷ is) [] vals k pre names vs env st at same h within e covers sees = absurd (omega (arith, same))
-inputs_see (i ∷ is) (t ∷ ts) [] k pre names vs env st at same h within e covers sees = absurd h
-inputs_see (i ∷ is) (t ∷ ts) (v ∷ vals) k pre names vs env st at same h within e covers sees =
+pub inputs_see : (is : List Ident) (ts : List NumericType) (vals : List Val) (k : ℕ) (pre : List Cells) (names : Names) (cx : Context) (env : Env) (st : State) → length pre ≡ k → length is ≡ length ts → AreInputs (real_slots is ts) vals → All IsWithin ts → st.inputs ≡ pre ++ filled (flat_map (slot_arrays input_fronts) (real_slots is ts)) (flat_map arrays_of vals) → Covers cx (names_of is) → Sees names cx env st 0 → (after : Env) × (bound is vals env ≡ Some after) × Sees (inputs_from k is ts names) cx after st 0
+inputs_see [] [] [] k pre names cx env st at same h within e covers sees = (env, refl, sees)
+inputs_see [] [] (v ∷ vals) k pre names cx env st at same h within e covers sees = absurd h
+inputs_see [] (t ∷ ts) vals k pre names cx env st at same h within e covers sees = absurd (omega (arith, same))
+inputs_see (i ∷ is) [] vals k pre names cx env st at same h within e covers sees = absurd (omega (arith, same))
+inputs_see (i ∷ is) (t ∷ ts) [] k pre names cx env st at same h within e covers sees = absurd h
+inputs_see (i ∷ is) (t ∷ ts) (v ∷ vals) k pre names cx env st at same h within e covers sees =
     let one = one_of h.0.0 h.0.2 in
     let z : ℤ = one.0 in
     let v_is : v ≡ fi_of t z = h.0.1 ∙ ap (Fi t None scalar) one.1 in
@@ -110,9 +111,9 @@ inputs_see (i ∷ is) (t ∷ ts) (v ∷ vals) k pre names vs env st at same h wi
     let here : st.inputs ≡ pre ++ (c ∷ rest) = e ∙ ap (λ u. pre ++ filled (flat_map (slot_arrays input_fronts) (real_slots (i ∷ is) (t ∷ ts))) (flat_map arrays_of (u ∷ vals))) v_is in
     let next : st.inputs ≡ (pre ++ (c ∷ [])) ++ rest = here ∙ sym (append_assoc pre (c ∷ []) rest) in
     let k_next : length (pre ++ (c ∷ [])) ≡ suc k = omega (arith, at, length-append pre (c ∷ [])) in
-    let inner = inputs_see is ts vals (suc k) (pre ++ (c ∷ [])) (with_type names i.text (record { spot = Input k; num = t })) vs ((i.text, fi_of t z) ∷ env) st k_next (omega (arith, same)) h.1
-    (All-tail IsWithin t ts within) next (covers_tail vs i.text (names_of is) covers)
-    (sees_input names vs env st k pre i.text t z rest at (All-head IsWithin t ts within) range here (covers_head vs i.text (names_of is) covers) sees) in
+    let inner = inputs_see is ts vals (suc k) (pre ++ (c ∷ [])) (with_type names i.text (record { spot = Input k; num = t })) cx ((i.text, fi_of t z) ∷ env) st k_next (omega (arith, same)) h.1
+    (All-tail IsWithin t ts within) next (covers_tail cx i.text (names_of is) covers)
+    (sees_input names cx env st k pre i.text t z rest at (All-head IsWithin t ts within) range here (covers_head cx i.text (names_of is) covers) sees) in
     (inner.0, ap (λ u. bound is vals ((i.text, u) ∷ env)) v_is ∙ inner.1, inner.2)
 
 -- ---- outputs
@@ -127,18 +128,18 @@ abbrev pub values_of : List Operand → List ℤ → List Val
 values_of (o ∷ os) (z ∷ zs) = fi_of o.num z ∷ values_of os zs
 values_of os zs = []
 
-pub outputs_give : (os : List Ident) (names : Names) (vs : Variables) (env : Env) (st : State) (n : ℕ) (outs : List Operand) → outputs_lowered os names ≡ Some outs → Sees names vs env st n → (zs : List ℤ) × AllStand st outs zs × (source.outputs os env ≡ got.Gives (values_of outs zs)) × (length outs ≡ length os)
+pub outputs_give : (os : List Ident) (names : Names) (cx : Context) (env : Env) (st : State) (n : ℕ) (outs : List Operand) → outputs_lowered os names ≡ Some outs → Sees names cx env st n → (zs : List ℤ) × AllStand st outs zs × (source.outputs os env ≡ got.Gives (values_of outs zs)) × (length outs ≡ length os)
 unfolding got.bind got.or_wrong source.output
-outputs_give [] names vs env st n outs h sees =
+outputs_give [] names cx env st n outs h sees =
     let same : [] ≡ outs = some_is [] outs h in
     let P : List Operand → Type 0 = λ l. (zs : List ℤ) × AllStand st l zs × (source.outputs [] env ≡ got.Gives (values_of l zs)) × (length l ≡ 0) in
     subst P same ([], tt, refl, refl)
-outputs_give (o ∷ os) names vs env st n outs h sees =
+outputs_give (o ∷ os) names cx env st n outs h sees =
     let x = some_of (names o.text) (λ x. and_then (outputs_lowered os names) (λ xs. Some (x ∷ xs))) outs h in
     let xs = some_of (outputs_lowered os names) (λ xs. Some (x.0 ∷ xs)) outs x.2 in
     let same : x.0 ∷ xs.0 ≡ outs = some_is (x.0 ∷ xs.0) outs xs.2 in
     let f = sees o.text x.0 x.1 in
-    let rec = outputs_give os names vs env st n xs.0 xs.1 sees in
+    let rec = outputs_give os names cx env st n xs.0 xs.1 sees in
     let P : List Operand → Type 0 = λ l. (zs : List ℤ) × AllStand st l zs × (source.outputs (o ∷ os) env ≡ got.Gives (values_of l zs)) × (length l ≡ length (o ∷ os)) in
     let gives : source.outputs (o ∷ os) env ≡ got.Gives (values_of (x.0 ∷ xs.0) (f.0 ∷ rec.0)) =
     ap (λ l. got.bind (got.or_wrong o.place l) (λ v. got.bind (source.output o.place v) (λ w. got.bind (source.outputs os env) (λ ws. got.Gives (w ∷ ws))))) f.1

@@ -12,9 +12,9 @@ use Rattle.num_type.specs.declared.memory.Stop.TheVariants as stop
 use Rattle.num_type.specs.Types.{NumericType}
 use Rattle.fi_math.specs.declared.fimath.Fimath.{Fimath}
 use Rattle.fi_math.specs.Made.{Made}
-use Rattle.fi_math.specs.Rules.{product_made, add_made}
+use Rattle.fi_math.specs.Rules.{product_made, add_made, sub_made}
 use Rattle.fi_math.specs.Govern.{usual}
-use Rattle.scalar_walk.specs.Walk.{Scope, Task, Later, task_of, Sum, Product, counted, within, operator_typed}
+use Rattle.scalar_walk.specs.Walk.{Scope, Task, Later, task_of, Sum, Difference, Product, counted, within, operator_typed}
 use Rattle.scalar_walk.specs.Told.{Told, Passes, Refuses, ◌>>=◌, bind}
 use Rattle.scalar_walk.specs.View.{Tells, StopTells, IsStop}
 
@@ -68,28 +68,37 @@ product_told sc at x y nodes counts t m made c w e u =
     ∙ ap (λ g. bind (within at g) (λ s. Passes (s, counts))) (sym e)
     ∙ ap (λ g. bind g (λ s. Passes (s, counts))) w
 
--- an operator that is neither a sum nor a product nor a division
-pub later : (op : BinOp) → (op ≡ bin.Add → ⊥) → (op ≡ bin.Mul → ⊥) → (op ≡ bin.Div → ⊥) → (op ≡ bin.ElemDiv → ⊥) → (op ≡ bin.LeftDiv → ⊥) → (op ≡ bin.ElemLeftDiv → ⊥) → task_of op ≡ Later
-later bin.Add a m d e l f = absurd (a refl)
-later bin.Mul a m d e l f = absurd (m refl)
-later bin.Div a m d e l f = absurd (d refl)
-later bin.ElemDiv a m d e l f = absurd (e refl)
-later bin.LeftDiv a m d e l f = absurd (l refl)
-later bin.ElemLeftDiv a m d e l f = absurd (f refl)
-later bin.OrOr a m d e l f = refl
-later bin.AndAnd a m d e l f = refl
-later bin.Or a m d e l f = refl
-later bin.And a m d e l f = refl
-later bin.Eq a m d e l f = refl
-later bin.Ne a m d e l f = refl
-later bin.Lt a m d e l f = refl
-later bin.Le a m d e l f = refl
-later bin.Gt a m d e l f = refl
-later bin.Ge a m d e l f = refl
-later bin.Sub a m d e l f = refl
-later bin.ElemMul a m d e l f = refl
-later bin.Pow a m d e l f = refl
-later bin.ElemPow a m d e l f = refl
+-- a difference that is counted and has a type
+pub difference_told : (sc : Scope) (at : Place) (x y : NumericType) (nodes counts : ℕ) (t : NumericType) (m : Fimath) (made : Made) → counted at nodes ≡ Passes counts → within at made ≡ Passes t → made ≡ sub_made m x y → m ≡ usual → operator_typed sc at Difference x y nodes ≡ Passes (t, counts)
+unfolding bind operator_typed
+difference_told sc at x y nodes counts t m made c w e u =
+    ap (λ g. bind g (λ n. bind (within at (sub_made usual x y)) (λ s. Passes (s, n)))) c
+    ∙ ap (λ g. bind (within at (sub_made g x y)) (λ s. Passes (s, counts))) (sym u)
+    ∙ ap (λ g. bind (within at g) (λ s. Passes (s, counts))) (sym e)
+    ∙ ap (λ g. bind g (λ s. Passes (s, counts))) w
+
+-- an operator of which no kind is built
+pub later : (op : BinOp) → (op ≡ bin.Add → ⊥) → (op ≡ bin.Sub → ⊥) → (op ≡ bin.Mul → ⊥) → (op ≡ bin.ElemMul → ⊥) → (op ≡ bin.Div → ⊥) → (op ≡ bin.ElemDiv → ⊥) → (op ≡ bin.LeftDiv → ⊥) → (op ≡ bin.ElemLeftDiv → ⊥) → task_of op ≡ Later
+later bin.Add a s m t d e l f = absurd (a refl)
+later bin.Mul a s m t d e l f = absurd (m refl)
+later bin.Div a s m t d e l f = absurd (d refl)
+later bin.ElemDiv a s m t d e l f = absurd (e refl)
+later bin.LeftDiv a s m t d e l f = absurd (l refl)
+later bin.ElemLeftDiv a s m t d e l f = absurd (f refl)
+later bin.OrOr a s m t d e l f = refl
+later bin.AndAnd a s m t d e l f = refl
+later bin.Or a s m t d e l f = refl
+later bin.And a s m t d e l f = refl
+later bin.Eq a s m t d e l f = refl
+later bin.Ne a s m t d e l f = refl
+later bin.Lt a s m t d e l f = refl
+later bin.Le a s m t d e l f = refl
+later bin.Gt a s m t d e l f = refl
+later bin.Ge a s m t d e l f = refl
+later bin.Sub a s m t d e l f = absurd (s refl)
+later bin.ElemMul a s m t d e l f = absurd (t refl)
+later bin.Pow a s m t d e l f = refl
+later bin.ElemPow a s m t d e l f = refl
 
 -- such an operator is refused
 pub later_told : (sc : Scope) (at : Place) (task : Task) (x y : NumericType) (nodes : ℕ) → task ≡ Later → operator_typed sc at task x y nodes ≡ Refuses code.Unsupported at (sc.shown at)

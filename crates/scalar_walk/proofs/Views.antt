@@ -1,18 +1,18 @@
 -- What an opened expression of the code stands for.
-use Rattle.std.proofs.Common.{◌≡◌, [], ◌∷◌, map, ap, ◌∙◌, sym, Option, Some, None}
+use Rattle.std.proofs.Common.{◌≡◌, ℕ, List, [], ◌∷◌, map, ap, ◌∙◌, sym, Option, Some, None}
 use Rattle.fic_base.specs.declared.place.Place.{Place}
 use Rattle.mat_ast.specs.View.{expr_view, row_view, row_of, args_of, args_view, arg_step, kind_step, expr_step, row_step}
-use Rattle.mat_ast.specs.Tree.{Exp, Row, Binary, Range, RangeBy, NoArgs, Item}
+use Rattle.mat_ast.specs.Tree.{Exp, Row, Apply, Binary, Range, RangeBy, NoArgs, Item, Whole}
 use Rattle.mat_ast.specs.declared.tree.BinOp.{BinOp}
 use Rattle.mat_ast.specs.declared.tree.Arg.{Arg, fold-roll-Arg}
 use Rattle.mat_ast.specs.declared.tree.Arg.TheVariants as arg
-use Rattle.mat_ast.specs.declared.tree.Arg.TheVariants.{rolls-Item}
+use Rattle.mat_ast.specs.declared.tree.Arg.TheVariants.{rolls-Item, rolls-All}
 use Rattle.mat_ast.specs.declared.tree.Row as code
 use Rattle.mat_ast.specs.declared.tree.Row.{fold_out-Row, out-Row}
 use Rattle.mat_ast.specs.declared.tree.Expr.{Expr, fold_out-Expr, out-Expr}
 use Rattle.mat_ast.specs.declared.tree.ExprKind.{fold-ExprKind, fold-roll-ExprKind, ExprKind}
 use Rattle.mat_ast.specs.declared.tree.ExprKind.TheVariants as kind
-use Rattle.mat_ast.specs.declared.tree.ExprKind.TheVariants.{rolls-Binary, rolls-Range}
+use Rattle.mat_ast.specs.declared.tree.ExprKind.TheVariants.{rolls-Apply, rolls-Binary, rolls-Range}
 
 -- what a kind stands for at a place
 abbrev pub kind_at : ExprKind → Place → Exp
@@ -24,6 +24,11 @@ opened e k h = fold_out-Expr (Option Exp) (Place → Exp) Exp Row arg_step kind_
 pub binary_view : (e : Expr) (o : BinOp) (a b : Expr) → (out-Expr e).kind ≡ kind.Binary o a b → expr_view e ≡ Binary (out-Expr e).place o (expr_view a) (expr_view b)
 binary_view e o a b h =
     opened e (kind.Binary o a b) h ∙ ap (λ (k : ExprKind). kind_at k (out-Expr e).place) (sym (rolls-Binary o a b))
+    ∙ ap (λ f. f (out-Expr e).place) (fold-roll-ExprKind (Option Exp) (Place → Exp) Exp Row arg_step kind_step expr_step row_step _)
+
+pub apply_view : (e : Expr) (name : List ℕ) (opens : Place) (args : List Arg) → (out-Expr e).kind ≡ kind.Apply name opens args → expr_view e ≡ Apply (out-Expr e).place name opens (args_view args)
+apply_view e name opens args h =
+    opened e (kind.Apply name opens args) h ∙ ap (λ (k : ExprKind). kind_at k (out-Expr e).place) (sym (rolls-Apply name opens args))
     ∙ ap (λ f. f (out-Expr e).place) (fold-roll-ExprKind (Option Exp) (Place → Exp) Exp Row arg_step kind_step expr_step row_step _)
 
 pub range_view : (e first last : Expr) → (out-Expr e).kind ≡ kind.Range first None last → expr_view e ≡ Range (out-Expr e).place (expr_view first) (expr_view last)
@@ -44,4 +49,10 @@ cells_view r = fold_out-Row (Option Exp) (Place → Exp) Exp Row arg_step kind_s
 pub item_view : (a : Arg) (e : Expr) → a ≡ arg.Item e → args_view (a ∷ []) ≡ Item (expr_view e) NoArgs
 item_view a e h =
     ap (λ (x : Arg). args_view (x ∷ [])) (h ∙ sym (rolls-Item e))
+    ∙ ap (λ o. args_of (o ∷ [])) (fold-roll-Arg (Option Exp) (Place → Exp) Exp Row arg_step kind_step expr_step row_step _)
+
+-- all of a dimension alone as the subscripts
+pub all_view : (a : Arg) → a ≡ arg.All → args_view (a ∷ []) ≡ Whole NoArgs
+all_view a h =
+    ap (λ (x : Arg). args_view (x ∷ [])) (h ∙ sym rolls-All)
     ∙ ap (λ o. args_of (o ∷ [])) (fold-roll-Arg (Option Exp) (Place → Exp) Exp Row arg_step kind_step expr_step row_step _)

@@ -1,6 +1,7 @@
 -- What is told of expressions, from what is told of their parts.
-use Rattle.std.proofs.Common.{◌≡◌, ℕ, List, [], ◌∷◌, map, Option, Some, None, Err, sym, ap, subst, ◌∙◌}
+use Rattle.std.proofs.Common.{◌≡◌, ℕ, suc, List, [], ◌∷◌, length, map, get_or, Option, Some, None, Err, refl, sym, ap, subst, ◌∙◌, arith}
 use Rattle.std.specs.Prelude.{Result}
+use Rattle.std.proofs.lemmas.List.{length-map}
 use Rattle.fic_base.specs.declared.code.Code.{Code}
 use Rattle.fic_base.specs.declared.place.Place.{Place}
 use Rattle.fic_base.specs.declared.refusal.Refusal.{Refusal}
@@ -12,9 +13,9 @@ use Rattle.mat_ast.specs.declared.tree.ExprKind.TheVariants as kind
 use Rattle.mat_ast.specs.declared.tree.Arg.{Arg}
 use Rattle.mat_ast.specs.declared.tree.Arg.TheVariants as arg
 use Rattle.mat_ast.specs.View.{expr_view, arg_view, args_view, args_of}
-use Rattle.mat_ast.specs.Tree.{Exp, Binary}
+use Rattle.mat_ast.specs.Tree.{Exp, Binary, Apply}
 use Rattle.scalar_walk.specs.Told.{Told, Passes, Refuses, ◌>>=◌, bind}
-use Rattle.scalar_walk.specs.Walk.{Scope, Types, Typed, typed, args_typed, operator_typed, task_of, unbuilt}
+use Rattle.scalar_walk.specs.Walk.{Scope, Types, Typed, typed, args_typed, operator_typed, task_of, unbuilt, inside, apply_typed, args_count}
 use Rattle.scalar_walk.specs.View.{Tells, StopTells}
 use Rattle.scalar_walk.proofs.Tell.{err_tells, part_tells, next_tells, passed}
 use Rattle.scalar_walk.proofs.Views.{range_view, range_by_view, item_view}
@@ -129,3 +130,35 @@ item_told a e sc types around n x h p =
 pub item_stop : {R S : Type 0} (s : Stop Refusal) (view : R → Typed) (whole : S → ℕ) (a : Arg) (e : Expr) (sc : Scope) (types : Types) (around : Option (List ℕ)) (n : ℕ) → a ≡ arg.Item e → Tells {R = R} (Err s) view (typed (expr_view e) sc types around n) → Tells {R = S} (Err s) whole (args_typed (args_view (a ∷ [])) sc types around n)
 item_stop s view whole a e sc types around n h t =
     subst (λ l. Tells (Err s) whole (args_typed l sc types around n)) (sym (item_view a e h)) (part_tells s view whole (typed (expr_view e) sc types around n) (λ r. Passes r.1) t)
+
+-- ---- calls
+
+-- how many arguments there are
+count_of : (os : List (Option Exp)) → args_count (args_of os) ≡ length os
+count_of [] = refl
+count_of (None ∷ os) = ap suc (count_of os)
+count_of (Some e ∷ os) = ap suc (count_of os)
+
+-- what is told of subscripts or arguments that aren't a single one
+pub many_told : (xs : List Arg) (at : Place) (name : List ℕ) (opens : Place) (sc : Scope) (types : Types) (around : Option (List ℕ)) (n : ℕ) → (length xs ≡ 1 → ⊥) → typed (Apply at name opens (args_view xs)) sc types around n ≡ bind (args_typed (args_view xs) sc types (inside sc name around) n) (λ m. apply_typed sc types at name (length xs))
+many_told [] at name opens sc types around n h = refl
+many_told (a ∷ []) at name opens sc types around n h = absurd (h refl)
+many_told (a ∷ b ∷ more) at name opens sc types around n h = by (arg_view a) (arg_view b)
+  where
+    os : List (Option Exp)
+    os = map arg_view more
+
+    count : args_count (args_of os) ≡ length more
+    count = count_of os ∙ length-map more arg_view
+
+    by : (x y : Option Exp) → typed (Apply at name opens (args_of (x ∷ y ∷ os))) sc types around n ≡ bind (args_typed (args_of (x ∷ y ∷ os)) sc types (inside sc name around) n) (λ m. apply_typed sc types at name (suc (suc (length more))))
+    by None None = ap (λ k. bind (args_typed (args_of (None ∷ None ∷ os)) sc types (inside sc name around) n) (λ m. apply_typed sc types at name (suc (suc k)))) count
+    by None (Some f) = ap (λ k. bind (args_typed (args_of (None ∷ Some f ∷ os)) sc types (inside sc name around) n) (λ m. apply_typed sc types at name (suc (suc k)))) count
+    by (Some e) None = ap (λ k. bind (args_typed (args_of (Some e ∷ None ∷ os)) sc types (inside sc name around) n) (λ m. apply_typed sc types at name (suc (suc k)))) count
+    by (Some e) (Some f) = ap (λ k. bind (args_typed (args_of (Some e ∷ Some f ∷ os)) sc types (inside sc name around) n) (λ m. apply_typed sc types at name (suc (suc k)))) count
+
+-- a list of one element
+pub only_one : {A : Type 0} (xs : List A) (x d : A) → length xs ≡ 1 → x ≡ get_or xs 0 d → xs ≡ x ∷ []
+only_one [] x d h e = absurd (omega (arith, h))
+only_one (y ∷ []) x d h e = ap (λ z. z ∷ []) (sym e)
+only_one (y ∷ z ∷ ys) x d h e = absurd (omega (arith, h))

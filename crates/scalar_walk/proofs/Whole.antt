@@ -10,7 +10,7 @@ use Rattle.num_type.specs.Types.{NumericType, IsWithin}
 use Rattle.fi_eval.specs.Outcome as got
 use Rattle.fi_eval.specs.Value.{Val}
 use Rattle.fi_eval.specs.Meaning as source
-use Rattle.fi_eval.specs.Meaning.{Env, names_of, variables_of, targets_of_block, evaluated, entered, function_named, bound}
+use Rattle.fi_eval.specs.Meaning.{Env, Context, context_of, names_of, targets_of_block, evaluated, entered, function_named, bound}
 use Rattle.c_tree.specs.declared.tree.CWord.{CWord}
 use Rattle.c_tree.specs.declared.tree.CWord.TheVariants.{I64, U64}
 use Rattle.c_tree.specs.declared.tree.CounterKind.{CounterKind}
@@ -24,10 +24,11 @@ use Rattle.c_tree.specs.Outcome.{bind}
 use Rattle.c_tree.specs.Meaning.{State, run_block}
 use Rattle.c_tree.specs.Run.{Ended, run, start, result_of, zero_word}
 use Rattle.c_tree.specs.Tokens.{body_token, closing_token}
-use Rattle.scalar_walk.specs.Lowered.{Operand, Names, Emitted, Behind, block_lowered, outputs_lowered, stores_from, inputs_from, no_names, real_slots, nothing_emitted, program_of, function_lowered}
+use Rattle.scalar_walk.specs.Lowered.{Operand, Names, Emitted, IsBlockLowered, IsFunctionLowered, outputs_lowered, stores_from, inputs_from, no_names, real_slots, nothing_emitted, program_of}
 use Rattle.scalar_walk.specs.Correspondence as match
 use Rattle.scalar_walk.specs.Correspondence.{AreInputs, AreFilled, Corresponds, Behaves, IsProgramOf, form_of, value_form}
-use Rattle.scalar_walk.proofs.Runs.{word_type, before, RunsTo, Sees, some_of, some_is, fi_of}
+use Rattle.scalar_walk.proofs.Runs.{word_type, before, RunsTo, some_is}
+use Rattle.scalar_walk.proofs.Expressions.{Sees, fi_of}
 use Rattle.scalar_walk.proofs.Entries.{same_text}
 use Rattle.scalar_walk.proofs.Blocks.{Covers, block_runs, any_front, any_behind}
 use Rattle.scalar_walk.proofs.Starts.{inputs_see, AllStand, values_of, outputs_give, nums_of, items_in, stores_run}
@@ -50,28 +51,14 @@ map_length : (os : List Operand) → length (nums_of os) ≡ length os
 map_length [] = refl
 map_length (o ∷ os) = omega (arith, map_length os)
 
--- what the lowering of a function gives
-pub record Parts (f : Fun) (ts : List NumericType) (p : Program) : Type 0 where
-  behind : Behind
-  body : block_lowered f.body (inputs_from 0 f.inputs ts no_names) nothing_emitted ≡ Some behind
-  outs : List Operand
-  outputs : outputs_lowered f.outputs behind.names ≡ Some outs
-  is : program_of f ts behind.emitted outs ≡ p
-
-pub parts : (f : Fun) (ts : List NumericType) (p : Program) → function_lowered f ts ≡ Some p → Parts f ts p
-parts f ts p h =
-    let b = some_of (block_lowered f.body (inputs_from 0 f.inputs ts no_names) nothing_emitted) _ p h in
-    let o = some_of (outputs_lowered f.outputs b.0.names) (λ outs. Some (program_of f ts b.0.emitted outs)) p b.2 in
-    record { behind = b.0; body = b.1; outs = o.0; outputs = o.1; is = some_is (program_of f ts b.0.emitted o.0) p o.2 }
-
 no_names_good : (sc : Scope) → NamesGood sc no_names
 no_names_good sc name o h = absurd (cc)
 
-statements_plain : (f : Fun) (ts : List NumericType) (em : Emitted) (names : Names) (outs : List Operand) → block_lowered f.body (inputs_from 0 f.inputs ts no_names) nothing_emitted ≡ Some (record { names = names; emitted = em }) → outputs_lowered f.outputs names ≡ Some outs → All IsWithin ts → ArePlain (scope_of (program_of f ts em outs)) (em.sets ++ (stores_from 0 outs ++ (Return 0 ∷ []))) × All IsWithin (nums_of outs) × (length outs ≡ length f.outputs)
-statements_plain f ts em names outs body h within =
+statements_plain : (cx : Context) (f : Fun) (ts : List NumericType) (em : Emitted) (names : Names) (outs : List Operand) → IsBlockLowered f.body cx (inputs_from 0 f.inputs ts no_names) nothing_emitted (record { names = names; emitted = em }) → outputs_lowered f.outputs names ≡ Some outs → All IsWithin ts → ArePlain (scope_of (program_of f ts em outs)) (em.sets ++ (stores_from 0 outs ++ (Return 0 ∷ []))) × All IsWithin (nums_of outs) × (length outs ≡ length f.outputs)
+statements_plain cx f ts em names outs body h within =
     let sc : Scope = scope_of (program_of f ts em outs) in
     let good = inputs_good f.inputs ts 0 no_names sc (λ j. ap (slice_get sc.arrays.inputs) (omega arith)) within (no_names_good sc) in
-    let b = block_plain f.body (inputs_from 0 f.inputs ts no_names) nothing_emitted (record { names = names; emitted = em }) body sc [] (sym (append-nil em.words)) good tt in
+    let b = block_plain f.body cx (inputs_from 0 f.inputs ts no_names) nothing_emitted (record { names = names; emitted = em }) body sc [] (sym (append-nil em.words)) good tt in
     let o = outputs_good f.outputs names outs sc h b.1 in
     let s = stores_plain f.outputs outs 0 sc (λ j. ap (slice_get sc.arrays.outputs) (omega arith)) o.1 o.0 in
     (plain_append sc em.sets _ b.0 (plain_append sc (stores_from 0 outs) _ s (return_plain sc, tt)), nums_within sc outs o.0, o.1)
@@ -82,12 +69,12 @@ no_counters f ts em outs counter.Barrier = lit< tt
 no_counters f ts em outs counter.Source = lit< tt
 no_counters f ts em outs counter.Turn = lit< tt
 
-well_formed : (f : Fun) (ts : List NumericType) (em : Emitted) (names : Names) (outs : List Operand) → IsHeader f → All IsWithin ts → length em.words < 2 ^ 32 → block_lowered f.body (inputs_from 0 f.inputs ts no_names) nothing_emitted ≡ Some (record { names = names; emitted = em }) → outputs_lowered f.outputs names ≡ Some outs → IsWellFormed (program_of f ts em outs) × (depth (program_of f ts em outs) ≤ depth_limit)
-well_formed f ts em names outs header within few body h =
+well_formed : (cx : Context) (f : Fun) (ts : List NumericType) (em : Emitted) (names : Names) (outs : List Operand) → IsHeader f → All IsWithin ts → length em.words < 2 ^ 32 → IsBlockLowered f.body cx (inputs_from 0 f.inputs ts no_names) nothing_emitted (record { names = names; emitted = em }) → outputs_lowered f.outputs names ≡ Some outs → IsWellFormed (program_of f ts em outs) × (depth (program_of f ts em outs) ≤ depth_limit)
+well_formed cx f ts em names outs header within few body h =
     let p : Program = program_of f ts em outs in
     let sc : Scope = scope_of p in
     let ss : List Sta = em.sets ++ (stores_from 0 outs ++ (Return 0 ∷ [])) in
-    let plain = statements_plain f ts em names outs body h within in
+    let plain = statements_plain cx f ts em names outs body h within in
     let outs_len : length f.outputs ≡ length (nums_of outs) = sym plain.2 ∙ sym (map_length outs) in
     let some : real_slots f.inputs ts ++ real_slots f.outputs (nums_of outs) ≢ [] = append_some (real_slots f.inputs ts) (real_slots f.outputs (nums_of outs)) (slots_some f.outputs (nums_of outs) header.any outs_len) in
     let last = returns_last (em.sets ++ stores_from 0 outs) in (
@@ -119,8 +106,8 @@ zero_types [] = refl
 zero_types (I64 ∷ ws) = ap (λ l. I64 ∷ l) (zero_types ws)
 zero_types (U64 ∷ ws) = ap (λ l. U64 ∷ l) (zero_types ws)
 
-no_names_seen : (vs : List (List ℕ)) (env : Env) (st : State) → Sees no_names vs env st 0
-no_names_seen vs env st name o h = absurd (cc)
+no_names_seen : (cx : Context) (env : Env) (st : State) → Sees no_names cx env st 0
+no_names_seen cx env st name o h = absurd (cc)
 
 -- what the outputs hold
 arrays_held : (outs : List Operand) (zs : List ℤ) (st : State) → AllStand st outs zs → flat_map match.arrays_of (values_of outs zs) ≡ map (λ z. z ∷ []) zs
@@ -147,27 +134,29 @@ ends p ss stores n st mid after closing at one two =
     ap (λ d. result_of closing (run_block d n st at)) (before_block ss (stores ++ (Return 0 ∷ [])) ∙ ap (before ss) (before_block stores (Return 0 ∷ [])))
     ∙ ap (result_of closing) (a.1 ∙ b.1)
 
-evaluates : (fs : List Fun) (entry : List ℕ) (f : Fun) (vals : List Val) (n : ℕ) (env env_after : Env) (results : List Val) → function_named fs entry ≡ Some f → bound f.inputs vals [] ≡ Some env → source.run_block f.body (variables_of f) n env ≡ got.Gives (source.Went env_after) → source.outputs f.outputs env_after ≡ got.Gives results → evaluated fs entry vals n ≡ got.Gives results
+evaluates : (fs : List Fun) (entry : List ℕ) (f : Fun) (vals : List Val) (n : ℕ) (env env_after : Env) (results : List Val) → function_named fs entry ≡ Some f → bound f.inputs vals [] ≡ Some env → source.run_block f.body (context_of fs f) n env ≡ got.Gives (source.Went env_after) → source.outputs f.outputs env_after ≡ got.Gives results → evaluated fs entry vals n ≡ got.Gives results
 unfolding got.bind got.or_wrong
 evaluates fs entry f vals n env env_after results found b r o =
-    ap (λ x. got.bind (got.or_wrong source.start x) (λ f. entered f vals n)) found
-    ∙ ap (λ x. got.bind (got.or_wrong f.name.place x) (λ env. got.bind (source.run_block f.body (variables_of f) n env) (λ flow. source.outputs f.outputs (source.env_of flow)))) b
+    ap (λ x. got.bind (got.or_wrong source.start x) (λ f. entered fs f vals n)) found
+    ∙ ap (λ x. got.bind (got.or_wrong f.name.place x) (λ env. got.bind (source.run_block f.body (context_of fs f) n env) (λ flow. source.outputs f.outputs (source.env_of flow)))) b
     ∙ ap (λ x. got.bind x (λ flow. source.outputs f.outputs (source.env_of flow))) r
     ∙ o
 
-covers_inputs : (f : Fun) → Covers (variables_of f) (names_of f.inputs)
-covers_inputs f name h = any_front (λ other. bytes_eq other name) (names_of f.inputs ++ names_of f.outputs) (targets_of_block f.body) (any_front (λ other. bytes_eq other name) (names_of f.inputs) (names_of f.outputs) h)
+covers_inputs : (fs : List Fun) (f : Fun) → Covers (context_of fs f) (names_of f.inputs)
+covers_inputs fs f name h = any_front (λ other. bytes_eq other name) (names_of f.inputs ++ names_of f.outputs) (targets_of_block f.body) (any_front (λ other. bytes_eq other name) (names_of f.inputs) (names_of f.outputs) h)
 
-covers_targets : (f : Fun) → Covers (variables_of f) (targets_of_block f.body)
-covers_targets f name h = any_behind (λ other. bytes_eq other name) (names_of f.inputs ++ names_of f.outputs) (targets_of_block f.body) h
+covers_targets : (fs : List Fun) (f : Fun) → Covers (context_of fs f) (targets_of_block f.body)
+covers_targets fs f name h = any_behind (λ other. bytes_eq other name) (names_of f.inputs ++ names_of f.outputs) (targets_of_block f.body) h
 
-behaves : (fs : List Fun) (entry : List ℕ) (f : Fun) (ts : List NumericType) (em : Emitted) (names : Names) (outs : List Operand) → function_named fs entry ≡ Some f → length f.inputs ≡ length ts → All IsWithin ts → block_lowered f.body (inputs_from 0 f.inputs ts no_names) nothing_emitted ≡ Some (record { names = names; emitted = em }) → outputs_lowered f.outputs names ≡ Some outs → Behaves fs entry (program_of f ts em outs)
-behaves fs entry f ts em names outs found same within body h vals olds n ins filled_outs =
+behaves : (cx : Context) (fs : List Fun) (entry : List ℕ) (f : Fun) (ts : List NumericType) (em : Emitted) (names : Names) (outs : List Operand) → function_named fs entry ≡ Some f → context_of fs f ≡ cx → length f.inputs ≡ length ts → All IsWithin ts → IsBlockLowered f.body cx (inputs_from 0 f.inputs ts no_names) nothing_emitted (record { names = names; emitted = em }) → outputs_lowered f.outputs names ≡ Some outs → Behaves fs entry (program_of f ts em outs)
+behaves cx fs entry f ts em names outs found here same within body_cx h vals olds n ins filled_outs =
     let p : Program = program_of f ts em outs in
     let st : State = start p (match.all_arrays vals) olds in
-    let vs = variables_of f in
-    let one = inputs_see f.inputs ts vals 0 [] no_names vs [] st refl same ins within refl (covers_inputs f) (no_names_seen vs [] st) in
-    let r = block_runs f.body (inputs_from 0 f.inputs ts no_names) vs one.0 nothing_emitted (record { names = names; emitted = em }) body (covers_targets f) st em.words [] one.2 (zero_types em.words) (sym (append-nil em.words)) in
+    let vs = context_of fs f in
+    let body : IsBlockLowered f.body vs (inputs_from 0 f.inputs ts no_names) nothing_emitted (record { names = names; emitted = em }) =
+    subst (λ c. IsBlockLowered f.body c (inputs_from 0 f.inputs ts no_names) nothing_emitted (record { names = names; emitted = em })) (sym here) body_cx in
+    let one = inputs_see f.inputs ts vals 0 [] no_names vs [] st refl same ins within refl (covers_inputs fs f) (no_names_seen vs [] st) in
+    let r = block_runs f.body (inputs_from 0 f.inputs ts no_names) vs one.0 nothing_emitted (record { names = names; emitted = em }) body (covers_targets fs f) st em.words [] one.2 (zero_types em.words) (sym (append-nil em.words)) in
     let o = outputs_give f.outputs names vs r.env_after r.after (length em.words) outs h r.sees in
     let s = stores_run f.outputs outs o.0 0 [] olds r.after refl o.3 o.1 filled_outs r.keeps.outputs in
     let sets_is : em.sets ≡ r.more = r.is in
@@ -198,20 +187,20 @@ slot_names (i ∷ is) [] same = absurd (omega (arith, same))
 slot_names (i ∷ is) (t ∷ ts) same = ap (λ l. i.text ∷ l) (slot_names is ts (omega (arith, same)))
 
 -- the program of a function is one of its file
-pub program_right : (fs : List Fun) (entry : List ℕ) (f : Fun) (ts : List NumericType) (p : Program) → function_named fs entry ≡ Some f → length f.inputs ≡ length ts → IsHeader f → All IsWithin ts → length p.words < 2 ^ 32 → function_lowered f ts ≡ Some p → IsProgramOf fs entry (real_slots f.inputs ts) p
-program_right fs entry f ts p found same header within few h =
-    let q = parts f ts p h in
+pub program_right : (cx : Context) (fs : List Fun) (entry : List ℕ) (f : Fun) (ts : List NumericType) (p : Program) → function_named fs entry ≡ Some f → context_of fs f ≡ cx → length f.inputs ≡ length ts → IsHeader f → All IsWithin ts → length p.words < 2 ^ 32 → IsFunctionLowered cx f ts p → IsProgramOf fs entry (real_slots f.inputs ts) p
+program_right cx fs entry f ts p found here same header within few q =
+    let body : IsBlockLowered f.body cx (inputs_from 0 f.inputs ts no_names) nothing_emitted (record { names = q.behind.names; emitted = q.behind.emitted }) = q.body in
     let words : length q.behind.emitted.words < 2 ^ 32 = subst (λ r. length r.words < 2 ^ 32) (sym q.is) few in
-    let form = well_formed f ts q.behind.emitted q.behind.names q.outs header within words q.body q.outputs in
+    let form = well_formed cx f ts q.behind.emitted q.behind.names q.outs header within words body q.outputs in
     let some_f : (g : Fun) → function_named fs entry ≡ Some g → f ≡ g = λ g e. some_is f g (sym found ∙ e) in
-    let plain = statements_plain f ts q.behind.emitted q.behind.names q.outs q.body q.outputs within in
+    let plain = statements_plain cx f ts q.behind.emitted q.behind.names q.outs body q.outputs within in
     subst (IsProgramOf fs entry (real_slots f.inputs ts)) q.is (record {
       well_formed = form.0;
       shallow = form.1;
       named = function_name fs entry f found;
       takes = refl;
       gives = λ g e. slot_names f.outputs (nums_of q.outs) (sym plain.2 ∙ sym (map_length q.outs)) ∙ ap (λ x. names_of x.outputs) (some_f g e);
-      behaves = behaves fs entry f ts q.behind.emitted q.behind.names q.outs found same within q.body q.outputs;
+      behaves = behaves cx fs entry f ts q.behind.emitted q.behind.names q.outs found here same within body q.outputs;
     })
 
 -- types of the code are within the limits

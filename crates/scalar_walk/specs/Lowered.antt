@@ -1,17 +1,23 @@
 -- The program of a function of scalar assignments.
-use Rattle.std.specs.Prelude.{ℕ, suc, ◌^◌, nat_abs, Bool, true, false, not, ◌&&◌, if◌then◌else◌, nat_eq, ◌-ℤ◌, List, [], ◌∷◌, ◌++◌, length, map, Option, Some, None}
+use Rattle.std.specs.Prelude.{◌≡◌, ℕ, suc, ◌^◌, nat_abs, Bool, true, false, not, ◌&&◌, if◌then◌else◌, nat_eq, ◌-ℤ◌, List, [], ◌∷◌, ◌++◌, length, map, Option, Some, None}
 use Rattle.mat_ast.specs.declared.tree.Ident.{Ident}
+use Rattle.mat_ast.specs.declared.tree.UnOp.{UnOp}
+use Rattle.mat_ast.specs.declared.tree.UnOp.TheVariants as un
 use Rattle.mat_ast.specs.Tree as ast
-use Rattle.mat_ast.specs.Tree.{Number, Words, Name, Apply, End, Unary, Post, Range, RangeBy, Paren, Matrix, Assign, Multi, IfOnly, ForEach, WhileTrue, BreakOff, GoOn, Fun}
+use Rattle.mat_ast.specs.Tree.{Number, Words, Name, Apply, NoArgs, Item, End, Unary, Post, Range, RangeBy, Paren, Matrix, Assign, Multi, IfOnly, ForEach, WhileTrue, BreakOff, GoOn, Fun}
 use Rattle.num_type.specs.Types.{NumericType}
 use Rattle.fi_math.specs.Govern.{usual}
-use Rattle.fi_eval.specs.Operators.{Work, Sum, Product, Unbuilt, work_of, result_type}
+use Rattle.fi_eval.specs.Operators.{Work, Sum, Difference, Product, Unbuilt, work_of, result_type, Turn, Keep, Negate, Remove}
+use Rattle.fi_eval.specs.Meaning.{Context, is_abs}
 use Rattle.c_tree.specs.declared.tree.CArray.TheVariants as array
 use Rattle.c_tree.specs.declared.tree.CWord.{CWord}
-use Rattle.c_tree.specs.declared.tree.CWord.TheVariants.{I64, U64}
+use Rattle.c_tree.specs.declared.tree.CWord.TheVariants.{I64}
 use Rattle.c_tree.specs.declared.tree.COp.TheVariants as op
 use Rattle.c_tree.specs.Tree.{Exp, Signed, Unsigned, Var, Element, Cast, Binary, Sta, Set, Store, Return, Fixed, Slot, Program}
 use Rattle.c_tree.specs.View.{block_of}
+use Rattle.lower_scalar.specs.Part.{Part, word_for}
+use Rattle.lower_scalar.specs.Part as lower
+use Rattle.lower_scalar.specs.Operators.{Subtracts, Negates, TakesSign}
 use Rattle.scalar_walk.specs.Walk.{with_type}
 
 -- where a value stands: in an input array, or in a variable
@@ -37,10 +43,6 @@ pub record Low : Type 0 where
   pub operand : Operand
   pub emitted : Emitted
 
-abbrev pub word_for : Bool → CWord
-word_for true = I64
-word_for false = U64
-
 abbrev pub read : Spot → Exp
 read (Input k) = Element (array.Input k) (Signed 0)
 read (Variable k) = Var k
@@ -59,9 +61,10 @@ aligned t o =
     let k : ℕ = nat_abs (t.fraction -ℤ o.num.fraction) in
     if nat_eq k 0 then widened t.signed o else Binary op.Mul (widened t.signed o) (constant t.signed (2 ^ k))
 
--- the value of an operation of this result type
+-- the value of a sum or a product of this result type
 unfoldable pub operation : Work → NumericType → Operand → Operand → Exp
 operation Sum t a b = Binary op.Add (aligned t a) (aligned t b)
+operation Difference t a b = read a.spot
 operation Product t a b = Binary op.Mul (widened t.signed a) (widened t.signed b)
 operation Unbuilt t a b = read a.spot
 
@@ -72,7 +75,7 @@ next_low t e em = record {
   emitted = record { sets = em.sets ++ (Set (length em.words) e ∷ []); words = em.words ++ (word_for t.signed ∷ []) };
 }
 
--- an operation into the next variable
+-- a sum or a product into the next variable
 abbrev pub set_next : Work → Operand → Operand → Emitted → NumericType → Low
 set_next work a b em t = next_low t (operation work t a b) em
 
@@ -80,37 +83,80 @@ unfoldable pub and_then : {A B : Type 0} → Option A → (A → Option B) → O
 and_then None next = None
 and_then (Some x) next = next x
 
+-- ---- parts
+
+-- what a part reads of an operand
+abbrev pub read_operand : Operand → lower.Operand
+read_operand o = record { num = o.num; exp = read o.spot }
+
+-- a part behind statements: its own variables and statements, and then its value, of this type, into the next variable
+abbrev pub with_part : NumericType → Part → Emitted → Low
+with_part t p em = next_low t p.value (record { sets = em.sets ++ p.before; words = em.words ++ p.words })
+
+-- the statements of a difference of this type behind others, and where its value stands
+pub record IsDifference (t : NumericType) (a b : Operand) (em : Emitted) (low : Low) : Type 0 where
+  pub own : Part
+  pub subtracts : Subtracts usual t (read_operand a) (read_operand b) (length em.words) own
+  pub is : low ≡ with_part t own em
+
+-- those of an operation with two operands
+unfoldable pub IsOperated : Work → NumericType → Operand → Operand → Emitted → Low → Type 0
+IsOperated Difference t a b em low = IsDifference t a b em low
+IsOperated work t a b em low = low ≡ set_next work a b em t
+
+-- the part negates a value or takes its sign away
+unfoldable pub Turns : Turn → Operand → ℕ → Part → Type 0
+Turns Keep a fresh p = ⊥
+Turns Negate a fresh p = Negates usual a.num (read a.spot) fresh p
+Turns Remove a fresh p = TakesSign usual a.num (read a.spot) fresh p
+
+-- the statements of an operation with one operand
+pub record IsTurned (turn : Turn) (a : Operand) (em : Emitted) (low : Low) : Type 0 where
+  pub own : Part
+  pub turns : Turns turn a (length em.words) own
+  pub is : low ≡ with_part a.num own em
+
+-- those of a sign before an operand; plus has none
+unfoldable pub IsSigned : UnOp → Operand → Emitted → Low → Type 0
+IsSigned un.Plus a em low = low ≡ record { operand = a; emitted = em }
+IsSigned un.Minus a em low = IsTurned Negate a em low
+IsSigned un.Not a em low = ⊥
+
+-- ---- expressions, statements and functions
+
 -- the statements of an expression behind others, and where its value stands
-abbrev pub lowered : ast.Exp → Names → Emitted → Option Low
-lowered (Name at name) names em = and_then (names name) (λ o. Some (record { operand = o; emitted = em }))
-lowered (ast.Binary at operator a b) names em =
-    and_then (lowered a names em) (λ x. and_then (lowered b names x.emitted) (λ y.
-    and_then (result_type (work_of operator) usual x.operand.num y.operand.num)
-    (λ t. Some (set_next (work_of operator) x.operand y.operand y.emitted t))))
-lowered (Paren at e) names em = lowered e names em
-lowered (Number at text imaginary) names em = None
-lowered (Words at text) names em = None
-lowered (Apply at name opens args) names em = None
-lowered (End at) names em = None
-lowered (Unary at sign e) names em = None
-lowered (Post at mark e) names em = None
-lowered (Range at first last) names em = None
-lowered (RangeBy at first step last) names em = None
-lowered (Matrix at rows) names em = None
+abbrev pub IsLowered : ast.Exp → Context → Names → Emitted → Low → Type 0
+IsLowered (Name at name) cx names em low = (o : Operand) × (names name ≡ Some o) × (low ≡ record { operand = o; emitted = em })
+IsLowered (Unary at sign e) cx names em low = (x : Low) × IsLowered e cx names em x × IsSigned sign x.operand x.emitted low
+IsLowered (ast.Binary at operator a b) cx names em low =
+    (x : Low) × IsLowered a cx names em x × (y : Low) × IsLowered b cx names x.emitted y × (t : NumericType)
+    × (result_type (work_of operator) usual x.operand.num y.operand.num ≡ Some t)
+    × IsOperated (work_of operator) t x.operand y.operand y.emitted low
+IsLowered (Paren at e) cx names em low = IsLowered e cx names em low
+IsLowered (Apply at name opens (Item e NoArgs)) cx names em low =
+    (is_abs cx name ≡ true) × (x : Low) × IsLowered e cx names em x × IsTurned Remove x.operand x.emitted low
+IsLowered (Apply at name opens args) cx names em low = ⊥
+IsLowered (Number at text imaginary) cx names em low = ⊥
+IsLowered (Words at text) cx names em low = ⊥
+IsLowered (End at) cx names em low = ⊥
+IsLowered (Post at mark e) cx names em low = ⊥
+IsLowered (Range at first last) cx names em low = ⊥
+IsLowered (RangeBy at first step last) cx names em low = ⊥
+IsLowered (Matrix at rows) cx names em low = ⊥
 
 -- the variables and the statements behind a block
 pub record Behind : Type 0 where
   pub names : Names
   pub emitted : Emitted
 
-abbrev pub sta_lowered : ast.Sta → Names → Emitted → Option Behind
-sta_lowered (Assign to e) names em =
-    and_then (lowered e names em) (λ x. Some (record { names = with_type names to.text x.operand; emitted = x.emitted }))
-sta_lowered s names em = None
+abbrev pub IsStaLowered : ast.Sta → Context → Names → Emitted → Behind → Type 0
+IsStaLowered (Assign to e) cx names em b =
+    (x : Low) × IsLowered e cx names em x × (b ≡ record { names = with_type names to.text x.operand; emitted = x.emitted })
+IsStaLowered s cx names em b = ⊥
 
-abbrev pub block_lowered : ast.Block → Names → Emitted → Option Behind
-block_lowered ast.Done names em = Some (record { names = names; emitted = em })
-block_lowered (ast.Next s more) names em = and_then (sta_lowered s names em) (λ b. block_lowered more b.names b.emitted)
+abbrev pub IsBlockLowered : ast.Block → Context → Names → Emitted → Behind → Type 0
+IsBlockLowered ast.Done cx names em b = b ≡ record { names = names; emitted = em }
+IsBlockLowered (ast.Next s more) cx names em b = (c : Behind) × IsStaLowered s cx names em c × IsBlockLowered more cx c.names c.emitted b
 
 -- the values of the outputs
 abbrev pub outputs_lowered : List Ident → Names → Option (List Operand)
@@ -154,8 +200,10 @@ program_of f ts em outs = record {
   body = block_of (em.sets ++ (stores_from 0 outs ++ (Return 0 ∷ [])));
 }
 
--- the program of a function at these types of its inputs
-abbrev pub function_lowered : Fun → List NumericType → Option Program
-function_lowered f ts =
-    and_then (block_lowered f.body (inputs_from 0 f.inputs ts no_names) nothing_emitted) (λ b.
-    and_then (outputs_lowered f.outputs b.names) (λ outs. Some (program_of f ts b.emitted outs)))
+-- a program of a function at these types of its inputs
+pub record IsFunctionLowered (cx : Context) (f : Fun) (ts : List NumericType) (p : Program) : Type 0 where
+  pub behind : Behind
+  pub body : IsBlockLowered f.body cx (inputs_from 0 f.inputs ts no_names) nothing_emitted behind
+  pub outs : List Operand
+  pub outputs : outputs_lowered f.outputs behind.names ≡ Some outs
+  pub is : program_of f ts behind.emitted outs ≡ p

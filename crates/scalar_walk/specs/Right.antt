@@ -3,7 +3,7 @@ use Rattle.std.specs.Prelude.{◌≡◌, ◌≢◌, ℕ, List, [], length, Some,
 use Rattle.fic_base.specs.Names.{IsName}
 use Rattle.num_type.specs.Types.{NumericType}
 use Rattle.mat_ast.specs.Tree.{Fun}
-use Rattle.fi_eval.specs.Meaning.{function_named, names_of}
+use Rattle.fi_eval.specs.Meaning.{Context, context_of, function_named, names_of}
 use Rattle.c_tree.specs.Tree.{Program}
 use Rattle.scalar_walk.specs.Lowered.{real_slots}
 use Rattle.scalar_walk.specs.Correspondence.{IsProgramOf}
@@ -24,8 +24,8 @@ pub record HasNames (f : Fun) : Type 0 where
   pub outputs : All IsName (names_of f.outputs)
   pub any : f.outputs ≢ []
 
--- in every file in which this function is the entry, with as many types as inputs, the program is one of that file
-abbrev pub IsRight : Fun → List NumericType → Program → Type 0
-IsRight f ts p =
-    (fs : List Fun) (entry : List ℕ) → function_named fs entry ≡ Some f → length f.inputs ≡ length ts → IsHeader f
+-- in every file in which this function is the entry in this context, with as many types as inputs, the program is one of that file
+abbrev pub IsRight : Context → Fun → List NumericType → Program → Type 0
+IsRight cx f ts p =
+    (fs : List Fun) (entry : List ℕ) → function_named fs entry ≡ Some f → context_of fs f ≡ cx → length f.inputs ≡ length ts → IsHeader f
     → IsProgramOf fs entry (real_slots f.inputs ts) p

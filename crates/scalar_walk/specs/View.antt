@@ -1,5 +1,5 @@
 -- What values of the code stand for.
-use Rattle.std.specs.Prelude.{◌≡◌, ℕ, List, map, Option, Some, Result, Ok, Err, bytes_eq, option_map}
+use Rattle.std.specs.Prelude.{◌≡◌, ℕ, ◌≤◌, List, length, map, Option, Some, Result, Ok, Err, bytes_eq, option_map}
 use Rattle.fic_base.specs.declared.refusal.Refusal.{Refusal}
 use Rattle.num_type.specs.declared.memory.Stop.{Stop}
 use Rattle.num_type.specs.declared.memory.Stop.TheVariants as stop
@@ -8,6 +8,8 @@ use Rattle.c_tree.specs.View.{stmt_view}
 use Rattle.scalar_walk.specs.declared.operand.Spot as code_spot
 use Rattle.scalar_walk.specs.declared.operand.Spot.TheVariants as spot
 use Rattle.scalar_walk.specs.declared.operand.Operand as code_operand
+use Rattle.scalar_walk.specs.declared.operations.Turn as code_turn
+use Rattle.scalar_walk.specs.declared.operations.Turn.TheVariants as turn
 use Rattle.scalar_walk.specs.declared.variables.Variables.{Variables}
 use Rattle.scalar_walk.specs.declared.emitted.Emitted as code_emitted
 use Rattle.scalar_walk.specs.declared.scope.Scope as code_scope
@@ -20,10 +22,11 @@ use Rattle.mat_token.specs.Lexeme.{lexemes_of}
 use Rattle.scalar_walk.specs.Shown.{text_at}
 use Rattle.scalar_walk.specs.Walk.{Scope, Types, Typed, Walked}
 use Rattle.scalar_walk.specs.Told.{Told, Passes, Refuses}
-use Rattle.scalar_walk.specs.Lowered.{Spot, Input, Variable, Operand, Emitted, Names, Low, Behind, set_next}
+use Rattle.scalar_walk.specs.Lowered.{Spot, Input, Variable, Operand, Emitted, Names, Low, Behind, IsOperated, read}
+use Rattle.lower_scalar.specs.Part.{reach}
 use Rattle.num_type.specs.Types.{NumericType}
 use Rattle.fi_math.specs.Govern.{usual}
-use Rattle.fi_eval.specs.Operators.{Work, result_type}
+use Rattle.fi_eval.specs.Operators.{Work, result_type, Turn, Negate, Remove}
 
 abbrev pub spot_view : code_spot.Spot → Spot
 spot_view (spot.Input k) = Input k
@@ -49,7 +52,7 @@ abbrev pub types_view : Variables → Types
 types_view v name = option_map (λ o. o.num) (names_view v name)
 
 abbrev pub scope_view : code_scope.Scope → Scope
-scope_view s = record { variables = names_in s.variables.now; functions = names_in s.functions.now; shown = text_at (lexemes_of s.bytes.now s.tokens.now) }
+scope_view s = record { context = record { variables = names_in s.variables.now; functions = names_in s.functions.now }; shown = text_at (lexemes_of s.bytes.now s.tokens.now) }
 
 abbrev pub around_view : Option (Bor (List ℕ)) → Option (List ℕ)
 around_view = option_map (λ b. b.now)
@@ -84,6 +87,18 @@ walked_view v e = record { types = types_view v; nodes = e.nodes }
 abbrev pub behind_view : Variables → code_emitted.Emitted → Behind
 behind_view v e = record { names = names_view v; emitted = emitted_view e }
 
--- an operation on two operands into the next variable
-abbrev pub SetsNext : Work → Operand → Operand → Emitted → Low → Type 0
-SetsNext work x y em low = (t : NumericType) × (result_type work usual x.num y.num ≡ Some t) × (low ≡ set_next work x y em t)
+-- what an operation on two operands is lowered to
+abbrev pub IsOperation : Work → Operand → Operand → Emitted → Low → Type 0
+IsOperation work x y em low = (t : NumericType) × (result_type work usual x.num y.num ≡ Some t) × IsOperated work t x y em low
+
+-- the variables that have a value stand below a number
+abbrev pub AreBelow : Names → ℕ → Type 0
+AreBelow names n = (name : List ℕ) (o : Operand) → names name ≡ Some o → reach (read o.spot) ≤ n
+
+-- an operand stands below the next variable
+abbrev pub IsUnder : code_operand.Operand → code_emitted.Emitted → Type 0
+IsUnder o e = reach (read (spot_view o.spot)) ≤ length e.words
+
+abbrev pub turn_view : code_turn.Turn → Turn
+turn_view turn.Negate = Negate
+turn_view turn.Remove = Remove

@@ -1,5 +1,5 @@
 -- The walk over a source: the first node with a missing condition refuses it.
-use Rattle.std.specs.Prelude.{ℕ, ◌+◌, Bool, ◌&&◌, ◌||◌, nat_lt, nat_eq, if◌then◌else◌, List, [], ◌∷◌, ◌++◌, map, length, codes, decimal, Option, Some, None, bytes_eq}
+use Rattle.std.specs.Prelude.{ℕ, suc, ◌+◌, Bool, ◌&&◌, ◌||◌, nat_lt, nat_eq, if◌then◌else◌, List, [], ◌∷◌, ◌++◌, length, codes, decimal, Option, Some, None, bytes_eq}
 use Rattle.std.specs.Fmt.{signed_decimal}
 use Rattle.std.specs.Ordering.{int_eq}
 use mathlib.Core.Bool.{beq}
@@ -7,14 +7,16 @@ use Rattle.fic_base.specs.declared.code.Code.TheVariants as code
 use Rattle.fic_base.specs.declared.place.Place.{Place}
 use Rattle.mat_ast.specs.declared.tree.BinOp.{BinOp}
 use Rattle.mat_ast.specs.declared.tree.BinOp.TheVariants as bin
+use Rattle.mat_ast.specs.declared.tree.UnOp.{UnOp}
+use Rattle.mat_ast.specs.declared.tree.UnOp.TheVariants as un
 use Rattle.mat_ast.specs.declared.tree.Ident.{Ident}
 use Rattle.mat_ast.specs.Tree.{Exp, Number, Words, Name, Apply, End, Unary, Binary, Post, Range, RangeBy, Paren, Matrix, Args, NoArgs, Whole, Item, Row, RowEnd, Cell, Rows, NoRows, RowOn, Sta, Assign, Store, Multi, IfOnly, IfElse, ForEach, WhileTrue, BreakOff, GoOn, Block, Done, Next, Fun}
 use Rattle.num_type.specs.Types.{NumericType}
 use Rattle.shape_rules.specs.TypeText.{type_text, shape_text}
 use Rattle.fi_math.specs.Made.{Made, Is, Wide, Out}
-use Rattle.fi_math.specs.Rules.{product_made, add_made}
+use Rattle.fi_math.specs.Rules.{product_made, add_made, sub_made}
 use Rattle.fi_math.specs.Govern.{usual}
-use Rattle.fi_eval.specs.Meaning.{is_variable, variables_of, function_named, first_place, place_of, start}
+use Rattle.fi_eval.specs.Meaning.{Context, is_variable, is_abs, context_of, function_named, first_place, place_of, start}
 use Rattle.scalar_walk.specs.Told.{Told, Passes, Refuses, ◌>>=◌, when◌then◌else◌}
 use Rattle.scalar_walk.specs.Names.{divisions, supported, unsupported, is_listed}
 
@@ -24,10 +26,7 @@ node_limit = 200000
 
 -- what stays the same over a function
 pub record Scope : Type 0 where
-  -- the names that are variables throughout it
-  pub variables : List (List ℕ)
-  -- the names of the file's functions
-  pub functions : List (List ℕ)
+  pub context : Context
   -- the text of the token at a place
   pub shown : Place → List ℕ
 
@@ -49,9 +48,22 @@ counted at nodes = when nat_lt nodes node_limit then Passes (nodes + 1) else Ref
 -- a name that is no variable
 abbrev pub other_name : {A : Type 0} → Scope → Place → List ℕ → Told A
 other_name sc at name =
-    when is_listed name sc.functions || (is_listed name supported || is_listed name unsupported)
+    when is_listed name sc.context.functions || (is_listed name supported || is_listed name unsupported)
     then Refuses code.Unsupported at name
     else (when is_listed name divisions then Refuses code.Division at name else Refuses code.UnknownName at name)
+
+abbrev pub counts_text : ℕ → ℕ → List ℕ
+counts_text have want = decimal have ++ codes " for " ++ decimal want
+
+abbrev pub scope_of : (Place → List ℕ) → List Fun → Fun → Scope
+scope_of shown fs f = record { context = context_of fs f; shown = shown }
+
+-- a call that isn't that of a variable, with so many arguments, where there is no built-in for it
+abbrev pub call_refused : {A : Type 0} → Scope → Place → List ℕ → ℕ → Told A
+call_refused sc at name count =
+    when is_abs sc.context name
+    then (when nat_eq count 1 then Refuses code.BadArgument at name else Refuses code.ArgCount at (counts_text count 1))
+    else other_name sc at name
 
 -- the type of a variable
 unfoldable pub known : Place → List ℕ → Option NumericType → Told NumericType
@@ -67,13 +79,16 @@ within at (Out fraction) = Refuses code.FractionOut at (signed_decimal fraction)
 -- what is asked of an operator
 pub data Task : Type 0 where
   Sum : Task
+  Difference : Task
   Product : Task
   Division : Task
   Later : Task
 
 abbrev pub task_of : BinOp → Task
 task_of bin.Add = Sum
+task_of bin.Sub = Difference
 task_of bin.Mul = Product
+task_of bin.ElemMul = Product
 task_of bin.Div = Division
 task_of bin.ElemDiv = Division
 task_of bin.LeftDiv = Division
@@ -86,15 +101,26 @@ Typed = NumericType × ℕ
 
 unfoldable pub operator_typed : Scope → Place → Task → NumericType → NumericType → ℕ → Told Typed
 operator_typed sc at Sum a b nodes = counted at nodes >>= (λ m. within at (add_made usual a b) >>= (λ t. Passes (t, m)))
+operator_typed sc at Difference a b nodes = counted at nodes >>= (λ m. within at (sub_made usual a b) >>= (λ t. Passes (t, m)))
 operator_typed sc at Product a b nodes = counted at nodes >>= (λ m. within at (product_made usual a b) >>= (λ t. Passes (t, m)))
 operator_typed sc at Division a b nodes = Refuses code.Division at (sc.shown at)
 operator_typed sc at Later a b nodes = unbuilt sc at
 
+-- a result of its operand's type
+abbrev pub same_typed : Place → NumericType → ℕ → Told Typed
+same_typed at a nodes = counted at nodes >>= (λ m. Passes (a, m))
+
+-- a sign before an operand
+unfoldable pub sign_typed : Scope → Place → UnOp → NumericType → ℕ → Told Typed
+sign_typed sc at un.Plus a nodes = same_typed at a nodes
+sign_typed sc at un.Minus a nodes = same_typed at a nodes
+sign_typed sc at un.Not a nodes = unbuilt sc at
+
 abbrev pub name_typed : Scope → Types → Place → List ℕ → ℕ → Told Typed
 name_typed sc types at name nodes =
-    when is_variable sc.variables name
+    when is_variable sc.context name
     then (known at name (types name) >>= (λ t. counted at nodes >>= (λ m. Passes (t, m))))
-    else other_name sc at name
+    else call_refused sc at name 0
 
 -- `end` in a subscript of this variable
 unfoldable pub end_typed : Scope → Types → Place → Option (List ℕ) → Told Typed
@@ -103,11 +129,21 @@ end_typed sc types at (Some name) = known at name (types name) >>= (λ t. unbuil
 
 -- the variable that `end` belongs to in the subscripts of a name
 abbrev pub inside : Scope → List ℕ → Option (List ℕ) → Option (List ℕ)
-inside sc name around = if is_variable sc.variables name then Some name else around
+inside sc name around = if is_variable sc.context name then Some name else around
 
-abbrev pub apply_typed : Scope → Types → Place → List ℕ → Told Typed
-apply_typed sc types at name =
-    when is_variable sc.variables name then (known at name (types name) >>= (λ t. unbuilt sc at)) else other_name sc at name
+-- a subscripted read, or a call with so many arguments
+abbrev pub apply_typed : {A : Type 0} → Scope → Types → Place → List ℕ → ℕ → Told A
+apply_typed sc types at name count =
+    when is_variable sc.context name then (known at name (types name) >>= (λ t. unbuilt sc at)) else call_refused sc at name count
+
+-- the same with one argument of this type
+abbrev pub call_typed : Scope → Types → Place → List ℕ → Typed → Told Typed
+call_typed sc types at name r = when is_abs sc.context name then same_typed at r.0 r.1 else apply_typed sc types at name 1
+
+abbrev pub args_count : Args → ℕ
+args_count NoArgs = 0
+args_count (Whole more) = suc (args_count more)
+args_count (Item e more) = suc (args_count more)
 
 abbrev mutual
   -- parts go before their node; around is the variable that `end` belongs to
@@ -115,10 +151,12 @@ abbrev mutual
   typed (Number at text imaginary) sc types around nodes = unbuilt sc at
   typed (Words at text) sc types around nodes = unbuilt sc at
   typed (Name at name) sc types around nodes = name_typed sc types at name nodes
+  typed (Apply at name opens (Item e NoArgs)) sc types around nodes =
+      typed e sc types (inside sc name around) nodes >>= call_typed sc types at name
   typed (Apply at name opens args) sc types around nodes =
-      args_typed args sc types (inside sc name around) nodes >>= (λ m. apply_typed sc types at name)
+      args_typed args sc types (inside sc name around) nodes >>= (λ m. apply_typed sc types at name (args_count args))
   typed (End at) sc types around nodes = end_typed sc types at around
-  typed (Unary at sign e) sc types around nodes = typed e sc types around nodes >>= (λ r. unbuilt sc at)
+  typed (Unary at sign e) sc types around nodes = typed e sc types around nodes >>= (λ r. sign_typed sc at sign r.0 r.1)
   typed (Binary at operator a b) sc types around nodes = do
     x ← typed a sc types around nodes
     y ← typed b sc types around x.1
@@ -225,12 +263,6 @@ abbrev pub outputs_typed : List Ident → Types → Told (List NumericType)
 outputs_typed [] types = Passes []
 outputs_typed (o ∷ os) types =
     known o.place o.text (types o.text) >>= (λ t. outputs_typed os types >>= (λ ts. Passes (t ∷ ts)))
-
-abbrev pub counts_text : ℕ → ℕ → List ℕ
-counts_text have want = decimal have ++ codes " for " ++ decimal want
-
-abbrev pub scope_of : (Place → List ℕ) → List Fun → Fun → Scope
-scope_of shown fs f = record { variables = variables_of f; functions = map (λ g. g.name.text) fs; shown = shown }
 
 -- a function at these types of its inputs
 abbrev pub function_walked : Scope → Fun → List NumericType → Told (List NumericType)

@@ -5,20 +5,20 @@ ghost use Rattle.fic_base.specs.declared.code.Code.TheVariants as code;
 ghost use Rattle.num_type.specs.View.{type_of};
 ghost use Rattle.mat_ast.specs.View.{func_view};
 ghost use Rattle.c_tree.specs.View.{program_view, slot_view, stmt_view};
-ghost use Rattle.scalar_walk.specs.Lowered.{function_lowered, inputs_from, no_names, real_slots, stores_from, program_of};
+ghost use Rattle.scalar_walk.specs.Lowered.{IsFunctionLowered, inputs_from, no_names, real_slots, stores_from, program_of};
 ghost use Rattle.scalar_walk.specs.Right.{IsRight};
 ghost use Rattle.scalar_walk.specs.Told.{Passes, Refuses, choose};
 ghost use Rattle.scalar_walk.specs.Walk as walk;
-ghost use Rattle.scalar_walk.specs.View.{Tells, TellsTypes, IsStop, scope_view, names_view, operand_view, emitted_view};
+ghost use Rattle.scalar_walk.specs.View.{Tells, TellsTypes, scope_view, names_view, operand_view, emitted_view};
 
 use crate::emitted::Emitted;
 use crate::lower::read;
 use crate::operand::{Operand, Spot};
-use crate::scope::{Scope, refused};
+use crate::scope::{Scope, arg_count};
 use crate::statements::{lower_block, lower_outputs};
 use crate::variables::Variables;
 use c_tree::{CArray, CKind, CSlot, CStmt, CTree, Interface};
-use fic_base::{Code, Place, Refusal, Text};
+use fic_base::{Refusal, Text};
 use mat_ast::{Func, Ident};
 use num_type::{Memory, NumType, Stop};
 use shape_rules::Shape;
@@ -36,8 +36,8 @@ pub fn lower_function(
 ) -> Result<CTree, Stop<Refusal>>
     ensures told { TellsTypes result (walk.function_walked (scope_view scope.now) (func_view f.now) (map type_of types.now)) }
     ensures counts { IfOk result (λ t. length f.now.inputs ≡ length types.now) }
-    ensures lowered { IfOk result (λ t. function_lowered (func_view f.now) (map type_of types.now) ≡ Some (program_view t)) }
-    ensures right { IfOk result (λ t. IsRight (func_view f.now) (map type_of types.now) (program_view t)) }
+    ensures lowered { IfOk result (λ t. IsFunctionLowered (scope_view scope.now).context (func_view f.now) (map type_of types.now) (program_view t)) }
+    ensures right { IfOk result (λ t. IsRight (scope_view scope.now).context (func_view f.now) (map type_of types.now) (program_view t)) }
     ensures few { IfOk result (λ t. length t.words < 2 ^ 32) }
 {
     check_count(alloc, f, types)?;
@@ -62,28 +62,6 @@ fn check_count(alloc: Global, f: &Func, types: &[NumType]) -> Result<(), Stop<Re
     } else {
         Err(arg_count(alloc, f.name.place, types.len(), want))
     }
-}
-
-// The refusal of another number of types than of inputs.
-fn arg_count(alloc: Global, at: Place, have: usize, want: usize) -> Stop<Refusal>
-    ensures { IsStop result code.ArgCount at (walk.counts_text have want) }
-{
-    match counts_text(alloc, have, want) {
-        Ok(text) => refused(alloc, Code::ArgCount, at, text.as_slice()),
-        Err(_) => Stop::Memory,
-    }
-}
-
-fn counts_text(alloc: Global, have: usize, want: usize) -> Result<Vec<u8>, Memory>
-    ensures { IfOk result (λ v. v.items ≡ walk.counts_text have want) }
-{
-    let have = have.to_string(alloc)?;
-    let want = want.to_string(alloc)?;
-    let mut text = Vec::new(alloc);
-    text.extend_from_slice(have.as_bytes())?;
-    text.extend_from_slice(b" for ")?;
-    text.extend_from_slice(want.as_bytes())?;
-    Ok(text)
 }
 
 // Gives the inputs their places.

@@ -4,7 +4,9 @@ use crate::lower_file;
 use crate::tests::{func, ident, inputs, operand, outputs, push_ident};
 use c_tree::CTree;
 use fic_base::{Code, Place, Refusal, Text};
-use mat_ast::{BinOp, Expr, Func, Ident, Stmt, assign, binary, name, range};
+use mat_ast::{
+    Arg, BinOp, Expr, Func, Ident, Stmt, UnOp, apply, assign, binary, name, range, unary,
+};
 use mat_token::{Kind, Token};
 use num_type::{NumType, Stop};
 use sqlite_items::Items;
@@ -93,6 +95,28 @@ fn operation(alloc: Global, op: BinOp) -> Result<Expr, AllocError> {
     let a = operand(alloc, b"a")?;
     let b = operand(alloc, b"b")?;
     binary(alloc, at(3), op, a, b)
+}
+
+/// `abs(..)` of so many arguments `a`, with the name at offset 3.
+fn call(alloc: Global, count: u32) -> Result<Expr, AllocError> {
+    let mut args = Items::new(alloc);
+    for _ in 0..count {
+        args.push(Arg::Item(operand(alloc, b"a")?))?;
+    }
+    Ok(apply(at(3), Text::from_bytes(alloc, b"abs")?, at(6), args))
+}
+
+/// `abs(:)`, with the name at offset 3.
+fn call_on_all(alloc: Global) -> Result<Expr, AllocError> {
+    let mut args = Items::new(alloc);
+    args.push(Arg::All)?;
+    Ok(apply(at(3), Text::from_bytes(alloc, b"abs")?, at(6), args))
+}
+
+/// `~a`, with the operator at offset 3.
+fn not(alloc: Global) -> Result<Expr, AllocError> {
+    let a = operand(alloc, b"a")?;
+    unary(alloc, at(3), UnOp::Not, a)
 }
 
 /// `a:b`, with the colon at offset 3.
@@ -241,6 +265,43 @@ fn too_wide(rt: HostRuntime) {
 }
 
 #[test]
+fn difference_too_wide(rt: HostRuntime) {
+    let alloc = rt.alloc();
+    let value = operation(alloc, BinOp::Sub);
+    assert!(rt;
+        value_refuses(
+            alloc,
+            value,
+            &[(64, 0), (8, 0)],
+            refusal(Code::TooWide, 3, b"65")
+        )
+    );
+    let value = operation(alloc, BinOp::ElemMul);
+    assert!(rt;
+        value_refuses(
+            alloc,
+            value,
+            &[(8, 200), (8, 200)],
+            refusal(Code::FractionOut, 3, b"400")
+        )
+    );
+}
+
+#[test]
+fn other_counts_of_arguments(rt: HostRuntime) {
+    let alloc = rt.alloc();
+    let types = [(8, 0), (8, 0)];
+    let none = refusal(Code::ArgCount, 3, b"0 for 1");
+    assert!(rt; value_refuses(alloc, call(alloc, 0), &types, none));
+    let two = refusal(Code::ArgCount, 3, b"2 for 1");
+    assert!(rt; value_refuses(alloc, call(alloc, 2), &types, two));
+    let all = refusal(Code::BadArgument, 3, b"abs");
+    assert!(rt; value_refuses(alloc, call_on_all(alloc), &types, all));
+    let later = refusal(Code::Unsupported, 3, b":");
+    assert!(rt; value_refuses(alloc, not(alloc), &types, later));
+}
+
+#[test]
 fn names_without_values(rt: HostRuntime) {
     let alloc = rt.alloc();
     let value = wide(alloc, b"z");
@@ -261,13 +322,22 @@ fn names_without_values(rt: HostRuntime) {
             refusal(Code::NotAssigned, 0, b"y")
         )
     );
+    let value = wide(alloc, b"conj");
+    assert!(rt;
+        value_refuses(
+            alloc,
+            value,
+            &[(8, 0), (8, 0)],
+            refusal(Code::Unsupported, 0, b"conj")
+        )
+    );
     let value = wide(alloc, b"abs");
     assert!(rt;
         value_refuses(
             alloc,
             value,
             &[(8, 0), (8, 0)],
-            refusal(Code::Unsupported, 0, b"abs")
+            refusal(Code::ArgCount, 0, b"0 for 1")
         )
     );
 }

@@ -11,6 +11,10 @@ mod lower;
 mod name_set;
 mod names;
 mod operand;
+#[cfg(test)]
+mod operation_tests;
+mod operations;
+mod results;
 mod scope;
 mod statements;
 mod targets;

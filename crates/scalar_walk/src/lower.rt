@@ -18,13 +18,6 @@ use c_tree::{CArray, CExpr, COp, CWord};
 use num_type::{Memory, NumType};
 use std::alloc::Global;
 
-/// The word of a result of this signedness.
-pub fn word_for(signed: bool) -> CWord
-    ensures { result ≡ Lowered.word_for signed }
-{
-    if signed { CWord::I64 } else { CWord::U64 }
-}
-
 /// A read of a value. Want of memory is the only refusal.
 pub fn read(alloc: Global, spot: Spot) -> Result<CExpr, Memory>
     ensures { IfOk result (λ e. expr_view e ≡ Lowered.read (spot_view spot)) }

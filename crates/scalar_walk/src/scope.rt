@@ -1,17 +1,19 @@
 //! What stays the same while a function is walked, and the refusals of its nodes.
 
-ghost use Rattle.std.specs.Prelude.{◌≡◌, decimal, take, drop, None, Some};
+ghost use Rattle.std.specs.Prelude.{◌≡◌, IfOk, decimal, take, drop, None, Some};
 ghost use Rattle.std.specs.Fmt.{signed_decimal};
 ghost use Rattle.fic_base.specs.declared.code.Code.TheVariants as code;
 ghost use Rattle.mat_token.specs.Lexeme.{lexemes_of};
 ghost use Rattle.scalar_walk.specs.Names as names;
+ghost use Rattle.fi_eval.specs.Meaning as meaning;
 ghost use Rattle.scalar_walk.specs.Shown;
+ghost use Rattle.scalar_walk.specs.Walk as walk;
 ghost use Rattle.scalar_walk.specs.View.{scope_view, IsStop};
 
 use crate::name_set::NameSet;
 use fic_base::{Code, Place, Refusal, Text};
 use mat_token::{Kind, Token};
-use num_type::Stop;
+use num_type::{Memory, Stop};
 use std::alloc::Global;
 
 /// What stays the same while a function is walked.
@@ -29,16 +31,23 @@ pub struct Scope<'a> {
 
 /// Whether a name is a variable throughout the function.
 pub fn is_variable(scope: &Scope<'_>, name: &[u8]) -> bool
-    ensures { result ≡ names.is_listed name.now (scope_view scope.now).variables }
+    ensures { result ≡ names.is_listed name.now (scope_view scope.now).context.variables }
 {
     scope.variables.contains(name)
 }
 
 /// Whether a name is that of a function of the file.
 pub fn is_function(scope: &Scope<'_>, name: &[u8]) -> bool
-    ensures { result ≡ names.is_listed name.now (scope_view scope.now).functions }
+    ensures { result ≡ names.is_listed name.now (scope_view scope.now).context.functions }
 {
     scope.functions.contains(name)
+}
+
+/// Whether a name called is the built-in function `abs`: a variable or a function of the file goes before it.
+pub fn is_abs(scope: &Scope<'_>, name: &[u8]) -> bool
+    ensures { result ≡ meaning.is_abs (scope_view scope.now).context name.now }
+{
+    name == b"abs".as_slice() && !(is_variable(scope, name) || is_function(scope, name))
 }
 
 // Whether tokens of a kind have a text.
@@ -122,4 +131,26 @@ pub fn fraction_out(alloc: Global, at: Place, fraction: i32) -> Stop<Refusal>
         Ok(text) => refused(alloc, Code::FractionOut, at, text.as_bytes()),
         Err(_) => Stop::Memory,
     }
+}
+
+/// The refusal of another number of types or arguments than is wanted.
+pub fn arg_count(alloc: Global, at: Place, have: usize, want: usize) -> Stop<Refusal>
+    ensures { IsStop result code.ArgCount at (walk.counts_text have want) }
+{
+    match counts_text(alloc, have, want) {
+        Ok(text) => refused(alloc, Code::ArgCount, at, text.as_slice()),
+        Err(_) => Stop::Memory,
+    }
+}
+
+fn counts_text(alloc: Global, have: usize, want: usize) -> Result<Vec<u8>, Memory>
+    ensures { IfOk result (λ v. v.items ≡ walk.counts_text have want) }
+{
+    let have = have.to_string(alloc)?;
+    let want = want.to_string(alloc)?;
+    let mut text = Vec::new(alloc);
+    text.extend_from_slice(have.as_bytes())?;
+    text.extend_from_slice(b" for ")?;
+    text.extend_from_slice(want.as_bytes())?;
+    Ok(text)
 }

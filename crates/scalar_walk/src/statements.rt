@@ -1,14 +1,14 @@
 //! The walk over statements.
 
-ghost use Rattle.std.specs.Prelude.{◌≡◌, ℕ, ◌++◌, codes, IfOk, OnOk, Some, map};
+ghost use Rattle.std.specs.Prelude.{◌≡◌, ℕ, ◌++◌, codes, IfOk, OnOk, Some, length, map};
 ghost use Rattle.fic_base.specs.declared.code.Code.TheVariants as code;
 ghost use Rattle.num_type.specs.View.{type_of};
 ghost use Rattle.mat_ast.specs.View.{expr_view, stmt_view, block_view};
 ghost use Rattle.mat_ast.specs.Tree.{Assign};
-ghost use Rattle.scalar_walk.specs.Lowered.{sta_lowered, block_lowered, outputs_lowered};
+ghost use Rattle.scalar_walk.specs.Lowered.{IsStaLowered, IsBlockLowered, outputs_lowered};
 ghost use Rattle.fi_eval.specs.Meaning.{first_place, place_of};
 ghost use Rattle.scalar_walk.specs.Walk as walk;
-ghost use Rattle.scalar_walk.specs.View.{Tells, IsStop, names_view, types_view, scope_view, walked_view, operand_view, emitted_view, behind_view};
+ghost use Rattle.scalar_walk.specs.View.{Tells, IsStop, AreBelow, names_view, types_view, scope_view, walked_view, operand_view, emitted_view, behind_view};
 
 use crate::emitted::Emitted;
 use crate::operand::Operand;
@@ -29,8 +29,10 @@ pub fn lower_block(
     names: &mut Variables,
     out: &mut Emitted,
 ) -> Result<(), Stop<Refusal>>
+    requires { AreBelow (names_view names.old) (length out.old.words) }
     ensures told { Tells result (λ u. walked_view names.new out.new) (walk.block_walked (block_view body.now) (scope_view scope.now) (walked_view names.old out.old)) }
-    ensures low { OnOk result (block_lowered (block_view body.now) (names_view names.old) (emitted_view out.old) ≡ Some (behind_view names.new out.new)) }
+    ensures low { OnOk result (IsBlockLowered (block_view body.now) (scope_view scope.now).context (names_view names.old) (emitted_view out.old) (behind_view names.new out.new)) }
+    ensures below { OnOk result (AreBelow (names_view names.new) (length out.new.words)) }
 {
     for s in body {
         lower_stmt(s, alloc, scope, names, out)?;
@@ -46,37 +48,21 @@ fn lower_stmt(
     names: &mut Variables,
     out: &mut Emitted,
 ) -> Result<(), Stop<Refusal>>
+    requires { AreBelow (names_view names.old) (length out.old.words) }
     ensures told { Tells result (λ u. walked_view names.new out.new) (walk.sta_walked (stmt_view s.now) (scope_view scope.now) (walked_view names.old out.old)) }
-    ensures low { OnOk result (sta_lowered (stmt_view s.now) (names_view names.old) (emitted_view out.old) ≡ Some (behind_view names.new out.new)) }
+    ensures low { OnOk result (IsStaLowered (stmt_view s.now) (scope_view scope.now).context (names_view names.old) (emitted_view out.old) (behind_view names.new out.new)) }
+    ensures below { OnOk result (AreBelow (names_view names.new) (length out.new.words)) }
 {
     match s {
         Stmt::Assign { name, value } => lower_assign(name, value, alloc, scope, names, out),
-        Stmt::Store {
-            name,
-            paren: _,
-            args: _,
-            value: _,
-        } => Err(unbuilt(alloc, scope, name.place)),
+        Stmt::Store { name, .. } => Err(unbuilt(alloc, scope, name.place)),
         Stmt::Multi { targets, call } => {
             let at = place_of_targets(targets.as_slice(), call);
             Err(unbuilt(alloc, scope, at))
         }
-        Stmt::If {
-            place,
-            arms: _,
-            other: _,
-        } => Err(unbuilt(alloc, scope, *place)),
-        Stmt::For {
-            place,
-            name: _,
-            range: _,
-            body: _,
-        } => Err(unbuilt(alloc, scope, *place)),
-        Stmt::While {
-            place,
-            condition: _,
-            body: _,
-        } => Err(unbuilt(alloc, scope, *place)),
+        Stmt::If { place, .. } => Err(unbuilt(alloc, scope, *place)),
+        Stmt::For { place, .. } => Err(unbuilt(alloc, scope, *place)),
+        Stmt::While { place, .. } => Err(unbuilt(alloc, scope, *place)),
         Stmt::Break(place) => Err(unbuilt(alloc, scope, *place)),
         Stmt::Continue(place) => Err(unbuilt(alloc, scope, *place)),
     }
@@ -101,8 +87,10 @@ fn lower_assign(
     names: &mut Variables,
     out: &mut Emitted,
 ) -> Result<(), Stop<Refusal>>
+    requires { AreBelow (names_view names.old) (length out.old.words) }
     ensures told { Tells result (λ u. walked_view names.new out.new) (walk.sta_walked (Assign name.now (expr_view value.now)) (scope_view scope.now) (walked_view names.old out.old)) }
-    ensures low { OnOk result (sta_lowered (Assign name.now (expr_view value.now)) (names_view names.old) (emitted_view out.old) ≡ Some (behind_view names.new out.new)) }
+    ensures low { OnOk result (IsStaLowered (Assign name.now (expr_view value.now)) (scope_view scope.now).context (names_view names.old) (emitted_view out.old) (behind_view names.new out.new)) }
+    ensures below { OnOk result (AreBelow (names_view names.new) (length out.new.words)) }
 {
     let operand = lower_expr(value, alloc, scope, names, None, out)?;
     keep_type(alloc, name, names, operand.num)?;

@@ -55,39 +55,21 @@ fn put_target(s: &Stmt, alloc: Global, names: &mut NameSet) -> Result<(), Memory
     ensures { OnOk result (names_in names.new ≡ names_in names.old ++ meaning.targets_of (stmt_view s.now)) }
 {
     match s {
-        Stmt::Assign { name, value: _ } => put_name(name, alloc, names),
-        Stmt::Store {
-            name,
-            paren: _,
-            args: _,
-            value: _,
-        } => put_name(name, alloc, names),
-        Stmt::Multi { targets, call: _ } => put_names(targets.as_slice(), alloc, names),
-        Stmt::If {
-            place: _,
-            arms,
-            other,
-        } => {
+        Stmt::Assign { name, .. } => put_name(name, alloc, names),
+        Stmt::Store { name, .. } => put_name(name, alloc, names),
+        Stmt::Multi { targets, .. } => put_names(targets.as_slice(), alloc, names),
+        Stmt::If { arms, other, .. } => {
             put_arms(arms.as_slice(), alloc, names)?;
             match other {
                 None => Ok(()),
                 Some(block) => put_targets(block.as_slice(), alloc, names),
             }
         }
-        Stmt::For {
-            place: _,
-            name,
-            range: _,
-            body,
-        } => {
+        Stmt::For { name, body, .. } => {
             put_name(name, alloc, names)?;
             put_targets(body.as_slice(), alloc, names)
         }
-        Stmt::While {
-            place: _,
-            condition: _,
-            body,
-        } => put_targets(body.as_slice(), alloc, names),
+        Stmt::While { body, .. } => put_targets(body.as_slice(), alloc, names),
         Stmt::Break(_) => Ok(()),
         Stmt::Continue(_) => Ok(()),
     }

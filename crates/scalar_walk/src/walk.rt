@@ -1,49 +1,30 @@
 //! The walk over expressions: each is typed, and lowered behind the statements of its parts.
 
-ghost use Rattle.std.specs.Prelude.{◌≡◌, ◌+◌, ◌<◌, [], ◌∷◌, length, IfOk, OnOk, Some, Ok};
+ghost use Rattle.std.specs.Prelude.{◌≡◌, ◌≤◌, true, [], ◌∷◌, length, IfOk, OnOk, Some, Ok};
 ghost use Rattle.fic_base.specs.declared.code.Code.TheVariants as code;
 ghost use Rattle.num_type.specs.View.{type_of};
-ghost use Rattle.mat_ast.specs.Tree.{Paren};
+ghost use Rattle.mat_ast.specs.Tree.{Name, Apply, NoArgs, Item, Unary, Paren};
 ghost use Rattle.mat_ast.specs.View.{expr_view, args_view, row_view, rows_view};
-ghost use Rattle.fi_math.specs.View.{made_of};
 ghost use Rattle.fi_eval.specs.Operators.{work_of};
 ghost use Rattle.fi_eval.specs.Operators as operators;
-ghost use Rattle.scalar_walk.specs.Lowered.{lowered, and_then, next_low};
+ghost use Rattle.fi_eval.specs.Meaning as meaning;
+ghost use Rattle.scalar_walk.specs.Lowered.{IsLowered, IsSigned, IsTurned};
 ghost use Rattle.scalar_walk.specs.Told.{bind};
 ghost use Rattle.scalar_walk.specs.Walk as walk;
 ghost use Rattle.scalar_walk.specs.Walk.{Typed};
-ghost use Rattle.scalar_walk.specs.View.{Tells, StopTells, IsStop, SetsNext, names_view, types_view, scope_view, around_view, typed_view, operand_view, emitted_view, low_view};
-ghost use Rattle.c_tree.specs.View.{expr_view as c_view};
+ghost use Rattle.scalar_walk.specs.View.{Tells, StopTells, IsStop, IsOperation, AreBelow, IsUnder, names_view, types_view, scope_view, around_view, typed_view, operand_view, emitted_view, low_view};
 
 use crate::emitted::Emitted;
-use crate::lower::{product, sum, word_for};
 use crate::names::{is_division, is_supported, is_unsupported};
-use crate::operand::{Operand, Spot};
-use crate::scope::{
-    Scope, fraction_out, is_function, is_variable, refused, text_at, too_many_nodes, too_wide,
-    unbuilt,
-};
+use crate::operand::Operand;
+use crate::operations::{Turn, lower_difference, lower_product, lower_sum, lower_turn};
+use crate::results::count;
+use crate::scope::{Scope, arg_count, is_abs, is_function, is_variable, refused, text_at, unbuilt};
 use crate::variables::Variables;
-use c_tree::CExpr;
-use fi_math::{Fimath, NoType, add_type, product_type};
 use fic_base::{Code, Place, Refusal};
-use mat_ast::{Arg, BinOp, Expr, ExprKind, Row};
-use num_type::{Memory, NumType, Stop};
+use mat_ast::{Arg, BinOp, Expr, ExprKind, Row, UnOp};
+use num_type::Stop;
 use std::alloc::Global;
-
-// Counts a node. Refused exactly at the limit of nodes.
-#[tactic(auto, using(crate::proofs::Tell::stop_tells), unfolding(crate::specs::Told::choose))]
-fn count(alloc: Global, at: Place, out: &mut Emitted) -> Result<(), Stop<Refusal>>
-    ensures told { Tells result (λ u. out.new.nodes) (walk.counted at out.old.nodes) }
-    ensures nodes { OnOk result (out.new.nodes ≡ out.old.nodes + 1) }
-    ensures same { emitted_view out.new ≡ emitted_view out.old }
-{
-    if out.count() {
-        Ok(())
-    } else {
-        Err(too_many_nodes(alloc, at))
-    }
-}
 
 // The refusal of a name that is no variable.
 #[tactic(auto, using(crate::proofs::Tell::is_told), unfolding(crate::specs::Told::choose))]
@@ -59,7 +40,28 @@ fn other_name(alloc: Global, scope: &Scope<'_>, at: Place, name: &[u8]) -> Stop<
     }
 }
 
-// The refusal of a subscripted read or a call: a variable needs a type before that.
+// The refusal of a call that isn't that of a variable, with so many arguments.
+#[tactic(auto, using(crate::proofs::Tell::is_told), unfolding(crate::specs::Told::choose))]
+fn call_refused(
+    alloc: Global,
+    scope: &Scope<'_>,
+    at: Place,
+    name: &[u8],
+    count: usize,
+) -> Stop<Refusal>
+    ensures { StopTells {A = Typed} result (walk.call_refused (scope_view scope.now) at name.now count) }
+{
+    if !is_abs(scope, name) {
+        return other_name(alloc, scope, at, name);
+    }
+    if count == 1 {
+        refused(alloc, Code::BadArgument, at, name)
+    } else {
+        arg_count(alloc, at, count, 1)
+    }
+}
+
+// The refusal of a subscripted read, or of a call with so many arguments: a variable needs a type before that.
 #[tactic(auto, using(crate::proofs::Tell::is_told, crate::proofs::Tell::err_tells, crate::proofs::Tell::stop_tells, crate::proofs::Tell::part_tells), unfolding(crate::specs::Told::choose, crate::specs::Told::bind, crate::specs::Walk::known))]
 fn access(
     alloc: Global,
@@ -67,11 +69,12 @@ fn access(
     names: &Variables,
     at: Place,
     name: &[u8],
+    count: usize,
 ) -> Stop<Refusal>
-    ensures { StopTells result (walk.apply_typed (scope_view scope.now) (types_view names.now) at name.now) }
+    ensures { StopTells {A = Typed} result (walk.apply_typed (scope_view scope.now) (types_view names.now) at name.now count) }
 {
     if !is_variable(scope, name) {
-        return other_name(alloc, scope, at, name);
+        return call_refused(alloc, scope, at, name, count);
     }
     match names.get(name) {
         None => refused(alloc, Code::NotAssigned, at, name),
@@ -89,11 +92,14 @@ fn lower_name(
     name: &[u8],
     out: &mut Emitted,
 ) -> Result<Operand, Stop<Refusal>>
+    requires { AreBelow (names_view names.now) (length out.old.words) }
     ensures told { Tells result (typed_view out.new.nodes) (walk.name_typed (scope_view scope.now) (types_view names.now) at name.now out.old.nodes) }
-    ensures low { IfOk result (λ o. and_then (names_view names.now name.now) (λ p. Some (record { operand = p; emitted = emitted_view out.old })) ≡ Some (low_view o out.new)) }
+    ensures low { IfOk result (λ o. IsLowered (Name at name.now) (scope_view scope.now).context (names_view names.now) (emitted_view out.old) (low_view o out.new)) }
+    ensures grows { OnOk result (length out.old.words ≤ length out.new.words) }
+    ensures below { IfOk result (λ o. IsUnder o out.new) }
 {
     if !is_variable(scope, name) {
-        return Err(other_name(alloc, scope, at, name));
+        return Err(call_refused(alloc, scope, at, name, 0));
     }
     match names.get(name) {
         Some(operand) => {
@@ -102,77 +108,6 @@ fn lower_name(
         }
         None => Err(refused(alloc, Code::NotAssigned, at, name)),
     }
-}
-
-// The type of a result, or the limit that it passes.
-#[tactic(auto, using(crate::proofs::Tell::is_told, crate::proofs::Tell::err_tells, crate::proofs::Tell::stop_tells, crate::proofs::Tell::part_tells), unfolding(crate::specs::Walk::within))]
-fn limited(
-    alloc: Global,
-    at: Place,
-    made: Result<NumType, NoType>,
-) -> Result<NumType, Stop<Refusal>>
-    ensures told { Tells result type_of (walk.within at (made_of made)) }
-    ensures made { IfOk result (λ t. made ≡ Ok t) }
-{
-    match made {
-        Ok(num) => Ok(num),
-        Err(NoType::TooWide { word }) => Err(too_wide(alloc, at, word)),
-        Err(NoType::FractionOut { fraction }) => Err(fraction_out(alloc, at, fraction)),
-    }
-}
-
-// A sum into the next variable.
-#[tactic(auto, using(crate::proofs::Tell::part_tells), unfolding(crate::specs::Lowered::operation, crate::specs::Walk::operator_typed, crate::specs::Told::bind))]
-fn lower_sum(
-    alloc: Global,
-    at: Place,
-    x: &Operand,
-    y: &Operand,
-    out: &mut Emitted,
-) -> Result<Operand, Stop<Refusal>>
-    ensures told { (sc : walk.Scope) → Tells result (typed_view out.new.nodes) (walk.operator_typed sc at walk.Sum (type_of x.now.num) (type_of y.now.num) out.old.nodes) }
-    ensures low { IfOk result (λ o. SetsNext operators.Sum (operand_view x.now) (operand_view y.now) (emitted_view out.old) (low_view o out.new)) }
-{
-    count(alloc, at, out)?;
-    let made = add_type(&Fimath::usual(), x.num, y.num);
-    let num = limited(alloc, at, made)?;
-    let value = sum(alloc, num, x, y)?;
-    let o = set(num, value, out)?;
-    Ok(o)
-}
-
-// A product into the next variable.
-#[tactic(auto, using(crate::proofs::Tell::part_tells), unfolding(crate::specs::Lowered::operation, crate::specs::Walk::operator_typed, crate::specs::Told::bind))]
-fn lower_product(
-    alloc: Global,
-    at: Place,
-    x: &Operand,
-    y: &Operand,
-    out: &mut Emitted,
-) -> Result<Operand, Stop<Refusal>>
-    ensures told { (sc : walk.Scope) → Tells result (typed_view out.new.nodes) (walk.operator_typed sc at walk.Product (type_of x.now.num) (type_of y.now.num) out.old.nodes) }
-    ensures low { IfOk result (λ o. SetsNext operators.Product (operand_view x.now) (operand_view y.now) (emitted_view out.old) (low_view o out.new)) }
-{
-    count(alloc, at, out)?;
-    let made = product_type(&Fimath::usual(), x.num, y.num);
-    let num = limited(alloc, at, made)?;
-    let value = product(alloc, num, x, y)?;
-    let o = set(num, value, out)?;
-    Ok(o)
-}
-
-// Sets the next variable, of this type. Want of memory is the only refusal.
-fn set(num: NumType, value: CExpr, out: &mut Emitted) -> Result<Operand, Memory>
-    requires { length out.old.words < out.old.nodes }
-    ensures nodes { out.new.nodes ≡ out.old.nodes }
-    ensures num { IfOk result (λ o. o.num ≡ num) }
-    ensures low { IfOk result (λ o. low_view o out.new ≡ next_low (type_of num) (c_view value) (emitted_view out.old)) }
-{
-    let number = out.set_next(word_for(num.signed()), value)?;
-    Ok(Operand {
-        spot: Spot::Variable(number),
-        num,
-    })
 }
 
 // The refusal of a division, with its operator.
@@ -194,17 +129,74 @@ fn lower_operator(
     y: &Operand,
     out: &mut Emitted,
 ) -> Result<Operand, Stop<Refusal>>
+    requires left { IsUnder x.now out.old }
+    requires right { IsUnder y.now out.old }
     ensures told { Tells result (typed_view out.new.nodes) (walk.operator_typed (scope_view scope.now) at (walk.task_of op) (type_of x.now.num) (type_of y.now.num) out.old.nodes) }
-    ensures low { IfOk result (λ o. SetsNext (work_of op) (operand_view x.now) (operand_view y.now) (emitted_view out.old) (low_view o out.new)) }
+    ensures low { IfOk result (λ o. IsOperation (work_of op) (operand_view x.now) (operand_view y.now) (emitted_view out.old) (low_view o out.new)) }
+    ensures grows { OnOk result (length out.old.words ≤ length out.new.words) }
+    ensures below { IfOk result (λ o. IsUnder o out.new) }
 {
     match op {
         BinOp::Add => lower_sum(alloc, at, x, y, out),
+        BinOp::Sub => lower_difference(alloc, at, x, y, out),
         BinOp::Mul => lower_product(alloc, at, x, y, out),
+        BinOp::ElemMul => lower_product(alloc, at, x, y, out),
         BinOp::Div => Err(division(alloc, scope, at)),
         BinOp::ElemDiv => Err(division(alloc, scope, at)),
         BinOp::LeftDiv => Err(division(alloc, scope, at)),
         BinOp::ElemLeftDiv => Err(division(alloc, scope, at)),
         _ => Err(unbuilt(alloc, scope, at)),
+    }
+}
+
+// A sign before an operand. Plus emits nothing.
+#[tactic(auto, using(crate::proofs::Tell::part_tells, crate::proofs::Tell::stop_tells), unfolding(crate::specs::Walk::sign_typed, crate::specs::Told::bind, crate::specs::Lowered::IsSigned))]
+fn lower_sign(
+    alloc: Global,
+    scope: &Scope<'_>,
+    at: Place,
+    op: UnOp,
+    x: &Operand,
+    out: &mut Emitted,
+) -> Result<Operand, Stop<Refusal>>
+    requires { IsUnder x.now out.old }
+    ensures told { Tells result (typed_view out.new.nodes) (walk.sign_typed (scope_view scope.now) at op (type_of x.now.num) out.old.nodes) }
+    ensures low { IfOk result (λ o. IsSigned op (operand_view x.now) (emitted_view out.old) (low_view o out.new)) }
+    ensures grows { OnOk result (length out.old.words ≤ length out.new.words) }
+    ensures below { IfOk result (λ o. IsUnder o out.new) }
+{
+    match op {
+        UnOp::Plus => {
+            count(alloc, at, out)?;
+            Ok(*x)
+        }
+        UnOp::Minus => lower_turn(alloc, at, Turn::Negate, x, out),
+        UnOp::Not => Err(unbuilt(alloc, scope, at)),
+    }
+}
+
+// A subscripted read or a call with this argument.
+#[tactic(auto, using(crate::proofs::Tell::err_tells), unfolding(crate::specs::Told::choose))]
+fn call_on(
+    alloc: Global,
+    scope: &Scope<'_>,
+    names: &Variables,
+    at: Place,
+    name: &[u8],
+    x: &Operand,
+    out: &mut Emitted,
+) -> Result<Operand, Stop<Refusal>>
+    requires { IsUnder x.now out.old }
+    ensures told { Tells result (typed_view out.new.nodes) (walk.call_typed (scope_view scope.now) (types_view names.now) at name.now (typed_view out.old.nodes x.now)) }
+    ensures abs { OnOk result (meaning.is_abs (scope_view scope.now).context name.now ≡ true) }
+    ensures low { IfOk result (λ o. IsTurned operators.Remove (operand_view x.now) (emitted_view out.old) (low_view o out.new)) }
+    ensures grows { OnOk result (length out.old.words ≤ length out.new.words) }
+    ensures below { IfOk result (λ o. IsUnder o out.new) }
+{
+    if is_abs(scope, name) {
+        lower_turn(alloc, at, Turn::Remove, x, out)
+    } else {
+        Err(access(alloc, scope, names, at, name, 1))
     }
 }
 
@@ -219,8 +211,11 @@ pub fn lower_expr(
     around: Option<&[u8]>,
     out: &mut Emitted,
 ) -> Result<Operand, Stop<Refusal>>
+    requires { AreBelow (names_view names.now) (length out.old.words) }
     ensures told { Tells result (typed_view out.new.nodes) (walk.typed (expr_view e.now) (scope_view scope.now) (types_view names.now) (around_view around.entry) out.old.nodes) }
-    ensures low { IfOk result (λ o. lowered (expr_view e.now) (names_view names.now) (emitted_view out.old) ≡ Some (low_view o out.new)) }
+    ensures low { IfOk result (λ o. IsLowered (expr_view e.now) (scope_view scope.now).context (names_view names.now) (emitted_view out.old) (low_view o out.new)) }
+    ensures grows { OnOk result (length out.old.words ≤ length out.new.words) }
+    ensures below { IfOk result (λ o. IsUnder o out.new) }
 {
     let at = e.place;
     match &e.kind {
@@ -231,22 +226,15 @@ pub fn lower_expr(
             lower_operator(alloc, scope, at, *op, &x, &y, out)
         }
         ExprKind::Paren(part) => lower_paren(part.get(), alloc, scope, names, around, at, out),
-        ExprKind::Number {
-            text: _,
-            imaginary: _,
-        } => Err(unbuilt(alloc, scope, at)),
+        ExprKind::Number { .. } => Err(unbuilt(alloc, scope, at)),
         ExprKind::Words(_) => Err(unbuilt(alloc, scope, at)),
         ExprKind::End => Err(end_refused(alloc, scope, names, at, around)),
-        ExprKind::Apply {
-            name,
-            paren: _,
-            args,
-        } => {
+        ExprKind::Apply { name, args, .. } => {
             let text = name.as_bytes();
-            Err(refuse_apply(args.as_slice(), alloc, scope, names, around, at, text, out))
+            lower_apply(args.as_slice(), alloc, scope, names, around, at, text, out)
         }
-        ExprKind::Unary(_, part) => {
-            Err(refuse_part(part.get(), alloc, scope, names, around, at, out))
+        ExprKind::Unary(op, part) => {
+            lower_unary(part.get(), alloc, scope, names, around, at, *op, out)
         }
         ExprKind::Post(_, part) => {
             Err(refuse_part(part.get(), alloc, scope, names, around, at, out))
@@ -278,12 +266,109 @@ fn lower_paren(
     at: Place,
     out: &mut Emitted,
 ) -> Result<Operand, Stop<Refusal>>
+    requires { AreBelow (names_view names.now) (length out.old.words) }
     ensures told { Tells result (typed_view out.new.nodes) (walk.typed (Paren at (expr_view part.now)) (scope_view scope.now) (types_view names.now) (around_view around.entry) out.old.nodes) }
-    ensures low { IfOk result (λ o. lowered (Paren at (expr_view part.now)) (names_view names.now) (emitted_view out.old) ≡ Some (low_view o out.new)) }
+    ensures low { IfOk result (λ o. IsLowered (Paren at (expr_view part.now)) (scope_view scope.now).context (names_view names.now) (emitted_view out.old) (low_view o out.new)) }
+    ensures grows { OnOk result (length out.old.words ≤ length out.new.words) }
+    ensures below { IfOk result (λ o. IsUnder o out.new) }
 {
     let x = lower_expr(part, alloc, scope, names, around, out)?;
     count(alloc, at, out)?;
     Ok(x)
+}
+
+// A sign before an expression.
+#[cycle(lower)]
+fn lower_unary(
+    part: &Expr,
+    alloc: Global,
+    scope: &Scope<'_>,
+    names: &Variables,
+    around: Option<&[u8]>,
+    at: Place,
+    op: UnOp,
+    out: &mut Emitted,
+) -> Result<Operand, Stop<Refusal>>
+    requires { AreBelow (names_view names.now) (length out.old.words) }
+    ensures told { Tells result (typed_view out.new.nodes) (walk.typed (Unary at op (expr_view part.now)) (scope_view scope.now) (types_view names.now) (around_view around.entry) out.old.nodes) }
+    ensures low { IfOk result (λ o. IsLowered (Unary at op (expr_view part.now)) (scope_view scope.now).context (names_view names.now) (emitted_view out.old) (low_view o out.new)) }
+    ensures grows { OnOk result (length out.old.words ≤ length out.new.words) }
+    ensures below { IfOk result (λ o. IsUnder o out.new) }
+{
+    let x = lower_expr(part, alloc, scope, names, around, out)?;
+    lower_sign(alloc, scope, at, op, &x, out)
+}
+
+// A subscripted read or a call.
+#[cycle(lower)]
+fn lower_apply(
+    args: &[Arg],
+    alloc: Global,
+    scope: &Scope<'_>,
+    names: &Variables,
+    around: Option<&[u8]>,
+    at: Place,
+    name: &[u8],
+    out: &mut Emitted,
+) -> Result<Operand, Stop<Refusal>>
+    requires { AreBelow (names_view names.now) (length out.old.words) }
+    ensures told { (opens : Place) → Tells result (typed_view out.new.nodes) (walk.typed (Apply at name.now opens (args_view args.now)) (scope_view scope.now) (types_view names.now) (around_view around.entry) out.old.nodes) }
+    ensures low { (opens : Place) → IfOk result (λ o. IsLowered (Apply at name.now opens (args_view args.now)) (scope_view scope.now).context (names_view names.now) (emitted_view out.old) (low_view o out.new)) }
+    ensures grows { OnOk result (length out.old.words ≤ length out.new.words) }
+    ensures below { IfOk result (λ o. IsUnder o out.new) }
+{
+    if args.len() == 1 {
+        lower_single(&args[0], alloc, scope, names, around, at, name, out)
+    } else {
+        Err(refuse_apply(args, alloc, scope, names, around, at, name, out))
+    }
+}
+
+// The same with one argument.
+#[cycle(lower)]
+fn lower_single(
+    arg: &Arg,
+    alloc: Global,
+    scope: &Scope<'_>,
+    names: &Variables,
+    around: Option<&[u8]>,
+    at: Place,
+    name: &[u8],
+    out: &mut Emitted,
+) -> Result<Operand, Stop<Refusal>>
+    requires { AreBelow (names_view names.now) (length out.old.words) }
+    ensures told { (opens : Place) → Tells result (typed_view out.new.nodes) (walk.typed (Apply at name.now opens (args_view (arg.now ∷ []))) (scope_view scope.now) (types_view names.now) (around_view around.entry) out.old.nodes) }
+    ensures low { (opens : Place) → IfOk result (λ o. IsLowered (Apply at name.now opens (args_view (arg.now ∷ []))) (scope_view scope.now).context (names_view names.now) (emitted_view out.old) (low_view o out.new)) }
+    ensures grows { OnOk result (length out.old.words ≤ length out.new.words) }
+    ensures below { IfOk result (λ o. IsUnder o out.new) }
+{
+    match arg {
+        Arg::All => Err(access(alloc, scope, names, at, name, 1)),
+        Arg::Item(e) => lower_call(e, alloc, scope, names, around, at, name, out),
+    }
+}
+
+// The same where the argument is an expression. `end` in the subscript of a variable is its own.
+#[cycle(lower)]
+fn lower_call(
+    e: &Expr,
+    alloc: Global,
+    scope: &Scope<'_>,
+    names: &Variables,
+    around: Option<&[u8]>,
+    at: Place,
+    name: &[u8],
+    out: &mut Emitted,
+) -> Result<Operand, Stop<Refusal>>
+    requires { AreBelow (names_view names.now) (length out.old.words) }
+    ensures told { (opens : Place) → Tells result (typed_view out.new.nodes) (walk.typed (Apply at name.now opens (Item (expr_view e.now) NoArgs)) (scope_view scope.now) (types_view names.now) (around_view around.entry) out.old.nodes) }
+    ensures low { (opens : Place) → IfOk result (λ o. IsLowered (Apply at name.now opens (Item (expr_view e.now) NoArgs)) (scope_view scope.now).context (names_view names.now) (emitted_view out.old) (low_view o out.new)) }
+    ensures grows { OnOk result (length out.old.words ≤ length out.new.words) }
+    ensures below { IfOk result (λ o. IsUnder o out.new) }
+{
+    let inner = inside(scope, name, around);
+    let x = lower_expr(e, alloc, scope, names, inner, out)?;
+    call_on(alloc, scope, names, at, name, &x, out)
 }
 
 // The refusal of an expression at a place that isn't supported yet, behind its last part.
@@ -297,6 +382,7 @@ fn refuse_part(
     at: Place,
     out: &mut Emitted,
 ) -> Stop<Refusal>
+    requires { AreBelow (names_view names.now) (length out.old.words) }
     ensures told { StopTells {A = Typed} result (bind (walk.typed (expr_view part.now) (scope_view scope.now) (types_view names.now) (around_view around.entry) out.old.nodes) (λ r. walk.unbuilt (scope_view scope.now) at)) }
 {
     match lower_expr(part, alloc, scope, names, around, out) {
@@ -305,7 +391,7 @@ fn refuse_part(
     }
 }
 
-// The refusal of a subscripted read or a call, behind its subscripts or arguments. `end` in the subscripts of a variable is its own.
+// The refusal of a subscripted read or a call whose subscripts or arguments aren't a single one, behind these.
 #[cycle(lower)]
 fn refuse_apply(
     args: &[Arg],
@@ -317,11 +403,12 @@ fn refuse_apply(
     name: &[u8],
     out: &mut Emitted,
 ) -> Stop<Refusal>
-    ensures told { StopTells {A = Typed} result (bind (walk.args_typed (args_view args.now) (scope_view scope.now) (types_view names.now) (walk.inside (scope_view scope.now) name.now (around_view around.entry)) out.old.nodes) (λ m. walk.apply_typed (scope_view scope.now) (types_view names.now) at name.now)) }
+    requires { AreBelow (names_view names.now) (length out.old.words) }
+    ensures told { StopTells {A = Typed} result (bind (walk.args_typed (args_view args.now) (scope_view scope.now) (types_view names.now) (walk.inside (scope_view scope.now) name.now (around_view around.entry)) out.old.nodes) (λ m. walk.apply_typed (scope_view scope.now) (types_view names.now) at name.now (length args.now))) }
 {
     let inner = inside(scope, name, around);
     match visit_args(args, alloc, scope, names, inner, out) {
-        Ok(()) => access(alloc, scope, names, at, name),
+        Ok(()) => access(alloc, scope, names, at, name, args.len()),
         Err(stop) => stop,
     }
 }
@@ -336,7 +423,9 @@ fn visit_args(
     around: Option<&[u8]>,
     out: &mut Emitted,
 ) -> Result<(), Stop<Refusal>>
+    requires { AreBelow (names_view names.now) (length out.old.words) }
     ensures told { Tells result (λ u. out.new.nodes) (walk.args_typed (args_view args.now) (scope_view scope.now) (types_view names.now) (around_view around.entry) out.old.nodes) }
+    ensures grows { OnOk result (length out.old.words ≤ length out.new.words) }
 {
     for arg in args {
         visit_arg(arg, alloc, scope, names, around, out)?;
@@ -354,7 +443,9 @@ fn visit_arg(
     around: Option<&[u8]>,
     out: &mut Emitted,
 ) -> Result<(), Stop<Refusal>>
+    requires { AreBelow (names_view names.now) (length out.old.words) }
     ensures told { Tells result (λ u. out.new.nodes) (walk.args_typed (args_view (arg.now ∷ [])) (scope_view scope.now) (types_view names.now) (around_view around.entry) out.old.nodes) }
+    ensures grows { OnOk result (length out.old.words ≤ length out.new.words) }
 {
     match arg {
         Arg::All => Ok(()),
@@ -376,6 +467,7 @@ fn refuse_rows(
     at: Place,
     out: &mut Emitted,
 ) -> Stop<Refusal>
+    requires { AreBelow (names_view names.now) (length out.old.words) }
     ensures told { StopTells {A = Typed} result (bind (walk.rows_typed (rows_view rows.now) (scope_view scope.now) (types_view names.now) (around_view around.entry) out.old.nodes) (λ m. walk.unbuilt (scope_view scope.now) at)) }
 {
     match visit_rows(rows, alloc, scope, names, around, out) {
@@ -394,7 +486,9 @@ fn visit_row(
     around: Option<&[u8]>,
     out: &mut Emitted,
 ) -> Result<(), Stop<Refusal>>
+    requires { AreBelow (names_view names.now) (length out.old.words) }
     ensures told { Tells result (λ u. out.new.nodes) (walk.row_typed (row_view row.now) (scope_view scope.now) (types_view names.now) (around_view around.entry) out.old.nodes) }
+    ensures grows { OnOk result (length out.old.words ≤ length out.new.words) }
 {
     for e in row.cells.as_slice() {
         let _ = lower_expr(e, alloc, scope, names, around, out)?;
@@ -412,7 +506,9 @@ fn visit_rows(
     around: Option<&[u8]>,
     out: &mut Emitted,
 ) -> Result<(), Stop<Refusal>>
+    requires { AreBelow (names_view names.now) (length out.old.words) }
     ensures told { Tells result (λ u. out.new.nodes) (walk.rows_typed (rows_view rows.now) (scope_view scope.now) (types_view names.now) (around_view around.entry) out.old.nodes) }
+    ensures grows { OnOk result (length out.old.words ≤ length out.new.words) }
 {
     for row in rows {
         visit_row(row, alloc, scope, names, around, out)?;

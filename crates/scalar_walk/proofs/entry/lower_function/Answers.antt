@@ -7,31 +7,40 @@ use Rattle.num_type.specs.View.{type_of}
 use Rattle.mat_ast.specs.View.{func_view, block_view}
 use Rattle.c_tree.specs.View.{program_view}
 use Rattle.c_tree.specs.declared.tree.CTree.{CTree}
-use Rattle.scalar_walk.specs.Lowered.{inputs_from, block_lowered, outputs_lowered, program_of}
+use Rattle.scalar_walk.specs.Lowered.{Emitted, IsBlockLowered, inputs_from, no_names, outputs_lowered, program_of}
 use Rattle.scalar_walk.specs.Told.{Refuses, bind, choose}
 use Rattle.scalar_walk.specs.Walk.{block_walked, outputs_typed, counts_text}
-use Rattle.scalar_walk.specs.View.{Tells, TellsTypes, names_view, emitted_view, operand_view, behind_view, scope_view, walked_view}
+use Rattle.scalar_walk.specs.View.{Tells, TellsTypes, AreBelow, names_view, emitted_view, operand_view, behind_view, scope_view, walked_view}
 use Rattle.scalar_walk.proofs.Functions.{start_of, wrong_count, starts, body_refused, outputs_refused, function_passes}
 use Rattle.scalar_walk.proofs.Whole.{program_right, all_within}
-use Rattle.scalar_walk.proofs.Lows.{function_low}
+use Rattle.scalar_walk.proofs.Lows.{function_low, inputs_below, none_below}
 use Rattle.scalar_walk.proofs.entry.lower_function.Goals as goal
 
 pub returns-clause-lowered : goal.returns-clause-lowered
 returns-clause-lowered c =
     let f = func_view c.args.f.now in
     let ts = map type_of c.args.types.now in
-    function_low f ts (names_view c.new-names.result) (names_view c.set_inputs.new.names) (emitted_view c.new-out.result)
-    (behind_view c.lower_block.new.names c.lower_block.new.out) (map operand_view c.in_ok-outputs.outputs.items) (program_view c.in_ok-program.program) c.new-names.ensures
+    let cx = (scope_view c.args.scope.now).context in
+    let behind = behind_view c.lower_block.new.names c.lower_block.new.out in
+    function_low cx f ts (names_view c.new-names.result) (names_view c.set_inputs.new.names) (emitted_view c.new-out.result)
+    behind (map operand_view c.in_ok-outputs.outputs.items) (program_view c.in_ok-program.program) c.new-names.ensures
     (c.in_ok-set_inputs.ensures ∙ ap (λ l. inputs_from 0 l ts (names_view c.new-names.result)) c.as_slice.ensures)
     c.new-out.ensures.emitted
-    (ap (λ l. block_lowered (block_view l) (names_view c.set_inputs.new.names) (emitted_view c.new-out.result)) (sym c.as_slice-2.ensures) ∙ c.in_ok-lower_block.ensures.low)
+    (subst (λ l. IsBlockLowered (block_view l) cx (names_view c.set_inputs.new.names) (emitted_view c.new-out.result) behind) c.as_slice-2.ensures c.in_ok-lower_block.ensures.low)
     (ap (λ l. outputs_lowered l (names_view c.lower_block.new.names)) (sym c.as_slice-3.ensures) ∙ c.in_ok-outputs.ensures.low)
     (c.in_ok-program.ensures.program ∙ ap (λ l. program_of f ts (emitted_view c.lower_block.new.out) (map operand_view l)) c.as_slice-4.ensures.value)
 
+pub lower_block-requires : goal.lower_block-requires
+lower_block-requires c =
+    let ts = map type_of c.args.types.now in
+    let start = c.in_ok-set_inputs.ensures ∙ ap (inputs_from 0 c.as_slice.result.now ts) c.new-names.ensures in
+    let none : length c.new-out.result.words ≡ 0 = ap (λ (e : Emitted). length e.words) c.new-out.ensures.emitted in
+    subst (λ m. AreBelow m (length c.new-out.result.words)) (sym start) (subst (AreBelow (inputs_from 0 c.as_slice.result.now ts no_names)) (sym none) (inputs_below 0 c.as_slice.result.now ts no_names none_below))
+
 pub returns-clause-right : goal.returns-clause-right
 returns-clause-right c =
-    λ fs entry found same header.
-    program_right fs entry (func_view c.args.f.now) (map type_of c.args.types.now) (program_view c.in_ok-program.program) found same header (all_within c.args.types.now)
+    λ fs entry found here same header.
+    program_right (scope_view c.args.scope.now).context fs entry (func_view c.args.f.now) (map type_of c.args.types.now) (program_view c.in_ok-program.program) found here same header (all_within c.args.types.now)
     c.in_ok-program.ensures.few (returns-clause-lowered c)
 
 pub returns-in_err-check_count-clause-told : goal.returns-in_err-check_count-clause-told

@@ -1,12 +1,11 @@
-use Rattle.std.proofs.Common.{None, Err, sym, ap, ◌∙◌}
+use Rattle.std.proofs.Common.{None, Err, length, sym, ap, subst, ◌∙◌}
 use Rattle.std.proofs.lemmas.Result.{err_from_is_err_and}
 use Rattle.num_type.specs.View.{type_of}
 use Rattle.mat_ast.specs.View.{expr_view}
 use Rattle.scalar_walk.specs.Told.{Passes}
-use Rattle.scalar_walk.specs.Lowered.{lowered}
 use Rattle.scalar_walk.specs.Walk.{Types, typed, assigned, with_type}
-use Rattle.scalar_walk.specs.View.{names_view, types_view, scope_view, emitted_view, operand_view, low_view, typed_view, walked_view}
-use Rattle.scalar_walk.proofs.Lows.{assign_low}
+use Rattle.scalar_walk.specs.View.{AreBelow, names_view, types_view, scope_view, emitted_view, operand_view, low_view, typed_view, walked_view}
+use Rattle.scalar_walk.proofs.Lows.{assign_low, below_more, below_with}
 use Rattle.scalar_walk.proofs.Tell.{part_tells, next_tells, passed, err_tells}
 use Rattle.scalar_walk.proofs.Walks.{tells_stop}
 use Rattle.scalar_walk.proofs.Outputs.{types_set}
@@ -14,8 +13,15 @@ use Rattle.scalar_walk.proofs.statements.lower_assign.Goals as goal
 
 pub returns-clause-low : goal.returns-clause-low
 returns-clause-low c =
-    assign_low (lowered (expr_view c.args.value.now) (names_view c.args.names.now) (emitted_view c.args.out.now)) (low_view c.in_ok-operand.operand c.lower_expr.new.out)
-    (names_view c.args.names.now) (names_view c.set.new.self) c.args.name.now.text c.as_bytes.result.now c.in_ok-operand.ensures.low c.in_ok-set.ensures c.as_bytes.ensures
+    assign_low (expr_view c.args.value.now) (scope_view c.args.scope.now).context (emitted_view c.args.out.now) c.args.name.now (low_view c.in_ok-operand.operand c.lower_expr.new.out)
+    (names_view c.args.names.now) (names_view c.set.new.self) c.as_bytes.result.now c.in_ok-operand.ensures.low c.in_ok-set.ensures c.as_bytes.ensures
+
+pub returns-clause-below : goal.returns-clause-below
+returns-clause-below c =
+    let names = names_view c.args.names.now in
+    let n = length c.lower_expr.new.out.words in
+    subst (λ m. AreBelow m n) (sym c.in_ok-set.ensures)
+    (below_with names c.as_bytes.result.now (operand_view c.in_ok-operand.operand) n (below_more names (length c.args.out.now.words) n c.in_ok-operand.ensures.grows c.requires) c.in_ok-operand.ensures.below)
 
 pub returns-in_err-operand-clause-told : goal.returns-in_err-operand-clause-told
 returns-in_err-operand-clause-told c =

@@ -1,11 +1,12 @@
-use Rattle.std.proofs.Common.{◌+◌, drop, sym, ap, subst, ◌∙◌, Err}
+use Rattle.std.proofs.Common.{◌+◌, drop, refl, sym, ap, subst, ◌∙◌, Err}
 use Rattle.std.proofs.lemmas.Result.{err_from_is_err_and}
 use Rattle.mat_ast.specs.View.{stmt_view, block_view}
+use Rattle.scalar_walk.specs.Lowered.{IsBlockLowered}
 use Rattle.scalar_walk.specs.Walk.{sta_walked, block_walked}
 use Rattle.scalar_walk.specs.View.{Tells, names_view, emitted_view, behind_view, scope_view, walked_view}
 use Rattle.scalar_walk.proofs.Lows.{block_low}
 use Rattle.scalar_walk.proofs.Tell.{part_tells, passed}
-use Rattle.scalar_walk.proofs.Steps.{left_at}
+use Rattle.scalar_walk.proofs.Steps.{left_at, left_none}
 use Rattle.scalar_walk.proofs.statements.lower_block.Goals as goal
 
 pub loop-s-preserved : goal.loop-s-preserved
@@ -15,11 +16,22 @@ loop-s-preserved c =
     let next = drop (k + 1) c.args.body.now in
     let w = walked_view c.loop-s.names c.loop-s.out in
     let left = left_at c.args.body.now k c.s-item.result c.s-item.result c.loop-s-test.true c.s-item.is in (
-      c.loop-s.invariant.0 ∙ block_low k c.args.body.now c.s-item.result (names_view c.loop-s.names) (emitted_view c.loop-s.out)
-          (behind_view c.lower_stmt.new.names c.lower_stmt.new.out) left c.in_ok-lower_stmt.ensures.low,
+      λ end more.
+          c.loop-s.invariant.0 end (block_low k c.args.body.now c.s-item.result sc.context (names_view c.loop-s.names) (emitted_view c.loop-s.out)
+          (behind_view c.lower_stmt.new.names c.lower_stmt.new.out) end left c.in_ok-lower_stmt.ensures.low more),
       c.loop-s.invariant.1 ∙ ap (λ l. block_walked (block_view l) sc w) left
           ∙ passed (sta_walked (stmt_view c.s-item.result) sc w) (walked_view c.lower_stmt.new.names c.lower_stmt.new.out) (block_walked (block_view next) sc) c.in_ok-lower_stmt.ensures.told,
+      c.in_ok-lower_stmt.ensures.below,
     )
+
+pub returns-clause-low : goal.returns-clause-low
+returns-clause-low c =
+    let sc = scope_view c.args.scope.now in
+    let end = behind_view c.loop-s.names c.loop-s.out in
+    c.loop-s.invariant.0 end (subst (λ l. IsBlockLowered (block_view l) sc.context (names_view c.loop-s.names) (emitted_view c.loop-s.out) end) (sym (left_none c.args.body.now c.loop-s.s-index c.loop-s-test.false)) refl)
+
+pub loop-s-init : goal.loop-s-init
+loop-s-init c = ((λ end h. h), refl, c.requires)
 
 pub returns-in_err-lower_stmt-clause-told : goal.returns-in_err-lower_stmt-clause-told
 returns-in_err-lower_stmt-clause-told c =

@@ -1,19 +1,20 @@
-use Rattle.std.proofs.Common.{◌≡◌, ◌+◌, map, drop, Some, Err, refl, sym, ap, subst, ◌∙◌}
+use Rattle.std.proofs.Common.{◌≡◌, ◌+◌, ◌∷◌, [], length, map, drop, Some, Err, refl, sym, ap, subst, ◌∙◌, arith}
 use Rattle.std.proofs.lemmas.Result.{err_from_is_err_and}
 use Rattle.fic_base.specs.declared.code.Code.TheVariants as code
 use Rattle.mat_ast.specs.View.{expr_view, args_view, row_of, row_view, rows_view}
 use Rattle.mat_ast.specs.declared.tree.Expr.{out-Expr}
 use Rattle.mat_ast.specs.declared.tree.ExprKind.TheVariants as kind
 use Rattle.mat_ast.specs.Tree as ast
-use Rattle.scalar_walk.specs.Lowered.{lowered}
+use Rattle.scalar_walk.specs.Lowered.{IsLowered}
+use Rattle.std.specs.Prelude.{IfOk}
 use Rattle.scalar_walk.specs.Told.{Passes, ◌>>=◌}
-use Rattle.scalar_walk.specs.Walk.{typed, args_typed, row_typed, rows_typed, apply_typed, inside, counted, unbuilt}
+use Rattle.scalar_walk.specs.Walk.{typed, args_typed, row_typed, rows_typed, apply_typed, call_typed, sign_typed, inside, counted, unbuilt}
 use Rattle.scalar_walk.specs.View.{Tells, StopTells, names_view, emitted_view, low_view, scope_view, types_view, around_view, typed_view}
-use Rattle.scalar_walk.proofs.Lows.{binary_low}
-use Rattle.scalar_walk.proofs.Views.{binary_view, cells_view}
+use Rattle.scalar_walk.proofs.Lows.{binary_low, sign_low, call_low}
+use Rattle.scalar_walk.proofs.Views.{apply_view, binary_view, cells_view, item_view, all_view}
 use Rattle.scalar_walk.proofs.Steps.{left_at, left_none}
-use Rattle.scalar_walk.proofs.Tell.{is_told, part_tells, next_tells, passed}
-use Rattle.scalar_walk.proofs.Walks.{item_stop, item_told, part_stops, stops_behind, tells_stop, args_step, args_stop, binary_first, binary_second, binary_last, range_first, range_last, range_step, range_by_last}
+use Rattle.scalar_walk.proofs.Tell.{is_told, err_tells, part_tells, next_tells, passed}
+use Rattle.scalar_walk.proofs.Walks.{many_told, item_stop, item_told, part_stops, stops_behind, tells_stop, args_step, args_stop, binary_first, binary_second, binary_last, range_first, range_last, range_step, range_by_last}
 use Rattle.scalar_walk.proofs.walk.+lower.Goals as goal
 
 pub lower_expr-returns-in_err-x-in-Binary-clause-told : goal.lower_expr-returns-in_err-x-in-Binary-clause-told
@@ -47,11 +48,12 @@ lower_expr-returns-in_ok-y-in-Binary-clause-low t c =
     let at = (out-Expr c.args.e.now).place in
     let view : expr_view c.args.e.now ≡ ast.Binary at c.in-Binary.op (expr_view c.in-Binary.a) (expr_view c.in-Binary.b) = binary_view c.args.e.now c.in-Binary.op c.in-Binary.a c.in-Binary.b c.in-Binary.is in
     let names = names_view c.args.names.now in
-    binary_low (expr_view c.args.e.now) at c.in-Binary.op (expr_view c.in-Binary.a) (expr_view c.in-Binary.b) names (emitted_view c.args.out.now)
+    let cx = (scope_view c.args.scope.now).context in
+    binary_low (expr_view c.args.e.now) cx at c.in-Binary.op (expr_view c.in-Binary.a) (expr_view c.in-Binary.b) names (emitted_view c.args.out.now)
     (low_view c.in_ok-x-in-Binary.x c.lower_expr.new.out) (low_view c.in_ok-y-in-Binary.y c.lower_expr-in-Binary.new.out)
     c.lower_operator.result c.lower_operator.new.out view
-    (ap (λ m. lowered (expr_view m) names (emitted_view c.args.out.now)) (sym c.get.ensures) ∙ c.in_ok-x-in-Binary.ensures.low)
-    (ap (λ m. lowered (expr_view m) names (emitted_view c.lower_expr.new.out)) (sym c.get-in-Binary.ensures) ∙ c.in_ok-y-in-Binary.ensures.low)
+    (subst (λ m. IsLowered (expr_view m) cx names (emitted_view c.args.out.now) (low_view c.in_ok-x-in-Binary.x c.lower_expr.new.out)) c.get.ensures c.in_ok-x-in-Binary.ensures.low)
+    (subst (λ m. IsLowered (expr_view m) cx names (emitted_view c.lower_expr.new.out) (low_view c.in_ok-y-in-Binary.y c.lower_expr-in-Binary.new.out)) c.get-in-Binary.ensures c.in_ok-y-in-Binary.ensures.low)
     c.lower_operator.ensures.low
 
 pub lower_expr-returns-in_err-lower_expr-in-Range-clause-told : goal.lower_expr-returns-in_err-lower_expr-in-Range-clause-told
@@ -145,7 +147,7 @@ refuse_apply-returns-in-Ok t c =
     let types = types_view c.args.names.now in
     record {
       told = stops_behind c.access.result (args_typed (args_view c.args.args.now) sc types (inside sc c.args.name.now (around_view c.args.around)) c.args.out.now.nodes)
-          c.visit_args.new.out.nodes (λ m. apply_typed sc types c.args.at c.args.name.now)
+          c.visit_args.new.out.nodes (λ m. apply_typed sc types c.args.at c.args.name.now (length c.args.args.now))
           (ap (λ o. args_typed (args_view c.args.args.now) sc types o c.args.out.now.nodes) (sym c.inside-inner.ensures) ∙ c.in-Ok.ensures.told) c.access.ensures;
     }
 
@@ -155,7 +157,7 @@ refuse_apply-returns-in-Err t c =
     let types = types_view c.args.names.now in
     let told = args_typed (args_view c.args.args.now) sc types (inside sc c.args.name.now (around_view c.args.around)) c.args.out.now.nodes in
     record {
-      told = part_stops c.in-Err.stop told (λ m. apply_typed sc types c.args.at c.args.name.now)
+      told = part_stops c.in-Err.stop told (λ m. apply_typed sc types c.args.at c.args.name.now (length c.args.args.now))
           (subst (λ o. StopTells c.in-Err.stop (args_typed (args_view c.args.args.now) sc types o c.args.out.now.nodes)) c.inside-inner.ensures
           (tells_stop c.in-Err.stop (λ u. c.visit_args.new.out.nodes) (args_typed (args_view c.args.args.now) sc types (around_view c.inside-inner.result) c.args.out.now.nodes) c.in-Err.ensures.told));
     }
@@ -165,40 +167,38 @@ visit_args-loop-arg-preserved t c =
     let sc = scope_view c.args.scope.now in
     let types = types_view c.args.names.now in
     let around = around_view c.args.around in
-    let k = c.loop-arg.arg-index in
-    c.loop-arg.invariant
-    ∙ ap (λ l. args_typed (args_view l) sc types around c.loop-arg.out.nodes) (left_at c.args.args.now k c.arg-item.result c.arg-item.result c.loop-arg-test.true c.arg-item.is)
-    ∙ args_step c.arg-item.result (drop (k + 1) c.args.args.now) sc types around c.loop-arg.out.nodes c.visit_arg.new.out.nodes c.in_ok-visit_arg.ensures.told
+    let k = c.loop-arg.arg-index in (
+      c.loop-arg.invariant.0
+          ∙ ap (λ l. args_typed (args_view l) sc types around c.loop-arg.out.nodes) (left_at c.args.args.now k c.arg-item.result c.arg-item.result c.loop-arg-test.true c.arg-item.is)
+          ∙ args_step c.arg-item.result (drop (k + 1) c.args.args.now) sc types around c.loop-arg.out.nodes c.visit_arg.new.out.nodes c.in_ok-visit_arg.ensures.told,
+      omega (arith, c.loop-arg.invariant.1, c.in_ok-visit_arg.ensures.grows),
+    )
 
-pub visit_args-returns-in_err-visit_arg : goal.visit_args-returns-in_err-visit_arg
-visit_args-returns-in_err-visit_arg t c =
+pub visit_args-returns-in_err-visit_arg-clause-told : goal.visit_args-returns-in_err-visit_arg-clause-told
+visit_args-returns-in_err-visit_arg-clause-told t c =
     let p = err_from_is_err_and c.from_residual.result c.from_residual.ensures.1 in
     let sc = scope_view c.args.scope.now in
     let types = types_view c.args.names.now in
     let around = around_view c.args.around in
     let k = c.loop-arg.arg-index in
     let s = c.in_err-visit_arg.field-0.0 in
-    let whole = c.loop-arg.invariant ∙ ap (λ l. args_typed (args_view l) sc types around c.loop-arg.out.nodes) (left_at c.args.args.now k c.arg-item.result c.arg-item.result c.loop-arg-test.true c.arg-item.is) in
-    record {
-      told = rw (p.1, p.2) (subst (λ told. Tells {R = Unit {0}} (Err s) (λ u. c.visit_arg.new.out.nodes) told) (sym whole)
-          (args_stop s (λ u. c.visit_arg.new.out.nodes) (λ u. c.visit_arg.new.out.nodes) c.arg-item.result (drop (k + 1) c.args.args.now) sc types around c.loop-arg.out.nodes c.in_err-visit_arg.ensures.told));
-    }
+    let whole = c.loop-arg.invariant.0 ∙ ap (λ l. args_typed (args_view l) sc types around c.loop-arg.out.nodes) (left_at c.args.args.now k c.arg-item.result c.arg-item.result c.loop-arg-test.true c.arg-item.is) in
+    rw (p.1, p.2) (subst (λ told. Tells {R = Unit {0}} (Err s) (λ u. c.visit_arg.new.out.nodes) told) (sym whole)
+    (args_stop s (λ u. c.visit_arg.new.out.nodes) (λ u. c.visit_arg.new.out.nodes) c.arg-item.result (drop (k + 1) c.args.args.now) sc types around c.loop-arg.out.nodes c.in_err-visit_arg.ensures.told))
 
-pub visit_arg-returns-in_err-lower_expr-in-Item : goal.visit_arg-returns-in_err-lower_expr-in-Item
-visit_arg-returns-in_err-lower_expr-in-Item t c =
+pub visit_arg-returns-in_err-lower_expr-in-Item-clause-told : goal.visit_arg-returns-in_err-lower_expr-in-Item-clause-told
+visit_arg-returns-in_err-lower_expr-in-Item-clause-told t c =
     let p = err_from_is_err_and c.from_residual.result c.from_residual.ensures.1 in
     let sc = scope_view c.args.scope.now in
     let types = types_view c.args.names.now in
     let around = around_view c.args.around in
     let s = c.in_err-lower_expr-in-Item.field-0.0 in
-    record { told = rw (p.1, p.2) (item_stop s (typed_view c.lower_expr.new.out.nodes) (λ u. c.lower_expr.new.out.nodes) c.args.arg.now c.in-Item.e sc types around c.args.out.now.nodes c.in-Item.is c.in_err-lower_expr-in-Item.ensures.told) }
+    rw (p.1, p.2) (item_stop s (typed_view c.lower_expr.new.out.nodes) (λ u. c.lower_expr.new.out.nodes) c.args.arg.now c.in-Item.e sc types around c.args.out.now.nodes c.in-Item.is c.in_err-lower_expr-in-Item.ensures.told)
 
-pub visit_arg-returns-in_ok-lower_expr-in-Item : goal.visit_arg-returns-in_ok-lower_expr-in-Item
-visit_arg-returns-in_ok-lower_expr-in-Item t c =
-    record {
-      told = item_told c.args.arg.now c.in-Item.e (scope_view c.args.scope.now) (types_view c.args.names.now) (around_view c.args.around) c.args.out.now.nodes
-          (typed_view c.lower_expr.new.out.nodes c.in_ok-lower_expr-in-Item.field-0) c.in-Item.is c.in_ok-lower_expr-in-Item.ensures.told;
-    }
+pub visit_arg-returns-in_ok-lower_expr-in-Item-clause-told : goal.visit_arg-returns-in_ok-lower_expr-in-Item-clause-told
+visit_arg-returns-in_ok-lower_expr-in-Item-clause-told t c =
+    item_told c.args.arg.now c.in-Item.e (scope_view c.args.scope.now) (types_view c.args.names.now) (around_view c.args.around) c.args.out.now.nodes
+    (typed_view c.lower_expr.new.out.nodes c.in_ok-lower_expr-in-Item.field-0) c.in-Item.is c.in_ok-lower_expr-in-Item.ensures.told
 
 pub visit_row-loop-e-preserved : goal.visit_row-loop-e-preserved
 visit_row-loop-e-preserved t c =
@@ -206,27 +206,27 @@ visit_row-loop-e-preserved t c =
     let types = types_view c.args.names.now in
     let around = around_view c.args.around in
     let k = c.loop-e.e-index in
-    let es = c.as_slice-e-items.result.now in
-    c.loop-e.invariant
-    ∙ ap (λ l. row_typed (row_of (map expr_view l)) sc types around c.loop-e.out.nodes) (left_at es k c.e-item.result c.e-item.result c.loop-e-test.true c.e-item.is)
-    ∙ passed (typed (expr_view c.e-item.result) sc types around c.loop-e.out.nodes) (typed_view c.lower_expr.new.out.nodes c.in_ok-lower_expr.field-0)
-    (λ r. row_typed (row_of (map expr_view (drop (k + 1) es))) sc types around r.1) c.in_ok-lower_expr.ensures.told
+    let es = c.as_slice-e-items.result.now in (
+      c.loop-e.invariant.0
+          ∙ ap (λ l. row_typed (row_of (map expr_view l)) sc types around c.loop-e.out.nodes) (left_at es k c.e-item.result c.e-item.result c.loop-e-test.true c.e-item.is)
+          ∙ passed (typed (expr_view c.e-item.result) sc types around c.loop-e.out.nodes) (typed_view c.lower_expr.new.out.nodes c.in_ok-lower_expr.field-0)
+          (λ r. row_typed (row_of (map expr_view (drop (k + 1) es))) sc types around r.1) c.in_ok-lower_expr.ensures.told,
+      omega (arith, c.loop-e.invariant.1, c.in_ok-lower_expr.ensures.grows),
+    )
 
-pub visit_row-returns : goal.visit_row-returns
-visit_row-returns t c =
+pub visit_row-returns-clause-told : goal.visit_row-returns-clause-told
+visit_row-returns-clause-told t c =
     let sc = scope_view c.args.scope.now in
     let types = types_view c.args.names.now in
     let around = around_view c.args.around in
     let k = c.loop-e.e-index in
     let es = c.as_slice-e-items.result.now in
-    record {
-      told = ap (λ r. row_typed r sc types around c.args.out.now.nodes) (cells_view c.args.row.now ∙ ap (λ l. row_of (map expr_view l)) (sym c.as_slice-e-items.ensures))
-          ∙ c.loop-e.invariant
-          ∙ ap (λ l. row_typed (row_of (map expr_view l)) sc types around c.loop-e.out.nodes) (left_none es k c.loop-e-test.false);
-    }
+    ap (λ r. row_typed r sc types around c.args.out.now.nodes) (cells_view c.args.row.now ∙ ap (λ l. row_of (map expr_view l)) (sym c.as_slice-e-items.ensures))
+    ∙ c.loop-e.invariant.0
+    ∙ ap (λ l. row_typed (row_of (map expr_view l)) sc types around c.loop-e.out.nodes) (left_none es k c.loop-e-test.false)
 
-pub visit_row-returns-in_err-lower_expr : goal.visit_row-returns-in_err-lower_expr
-visit_row-returns-in_err-lower_expr t c =
+pub visit_row-returns-in_err-lower_expr-clause-told : goal.visit_row-returns-in_err-lower_expr-clause-told
+visit_row-returns-in_err-lower_expr-clause-told t c =
     let p = err_from_is_err_and c.from_residual.result c.from_residual.ensures.1 in
     let sc = scope_view c.args.scope.now in
     let types = types_view c.args.names.now in
@@ -235,36 +235,113 @@ visit_row-returns-in_err-lower_expr t c =
     let es = c.as_slice-e-items.result.now in
     let s = c.in_err-lower_expr.field-0.0 in
     let whole = ap (λ r. row_typed r sc types around c.args.out.now.nodes) (cells_view c.args.row.now ∙ ap (λ l. row_of (map expr_view l)) (sym c.as_slice-e-items.ensures))
-    ∙ c.loop-e.invariant
+    ∙ c.loop-e.invariant.0
     ∙ ap (λ l. row_typed (row_of (map expr_view l)) sc types around c.loop-e.out.nodes) (left_at es k c.e-item.result c.e-item.result c.loop-e-test.true c.e-item.is) in
-    record {
-      told = rw (p.1, p.2) (subst (λ told. Tells {R = Unit {0}} (Err s) (λ u. c.lower_expr.new.out.nodes) told) (sym whole)
-          (part_tells s (typed_view c.lower_expr.new.out.nodes) (λ u. c.lower_expr.new.out.nodes) (typed (expr_view c.e-item.result) sc types around c.loop-e.out.nodes)
-          (λ r. row_typed (row_of (map expr_view (drop (k + 1) es))) sc types around r.1) c.in_err-lower_expr.ensures.told));
-    }
+    rw (p.1, p.2) (subst (λ told. Tells {R = Unit {0}} (Err s) (λ u. c.lower_expr.new.out.nodes) told) (sym whole)
+    (part_tells s (typed_view c.lower_expr.new.out.nodes) (λ u. c.lower_expr.new.out.nodes) (typed (expr_view c.e-item.result) sc types around c.loop-e.out.nodes)
+    (λ r. row_typed (row_of (map expr_view (drop (k + 1) es))) sc types around r.1) c.in_err-lower_expr.ensures.told))
 
 pub visit_rows-loop-row-preserved : goal.visit_rows-loop-row-preserved
 visit_rows-loop-row-preserved t c =
     let sc = scope_view c.args.scope.now in
     let types = types_view c.args.names.now in
     let around = around_view c.args.around in
-    let k = c.loop-row.row-index in
-    c.loop-row.invariant
-    ∙ ap (λ l. rows_typed (rows_view l) sc types around c.loop-row.out.nodes) (left_at c.args.rows.now k c.row-item.result c.row-item.result c.loop-row-test.true c.row-item.is)
-    ∙ passed (row_typed (row_view c.row-item.result) sc types around c.loop-row.out.nodes) c.visit_row.new.out.nodes
-    (λ m. rows_typed (rows_view (drop (k + 1) c.args.rows.now)) sc types around m) c.in_ok-visit_row.ensures.told
+    let k = c.loop-row.row-index in (
+      c.loop-row.invariant.0
+          ∙ ap (λ l. rows_typed (rows_view l) sc types around c.loop-row.out.nodes) (left_at c.args.rows.now k c.row-item.result c.row-item.result c.loop-row-test.true c.row-item.is)
+          ∙ passed (row_typed (row_view c.row-item.result) sc types around c.loop-row.out.nodes) c.visit_row.new.out.nodes
+          (λ m. rows_typed (rows_view (drop (k + 1) c.args.rows.now)) sc types around m) c.in_ok-visit_row.ensures.told,
+      omega (arith, c.loop-row.invariant.1, c.in_ok-visit_row.ensures.grows),
+    )
 
-pub visit_rows-returns-in_err-visit_row : goal.visit_rows-returns-in_err-visit_row
-visit_rows-returns-in_err-visit_row t c =
+pub visit_rows-returns-in_err-visit_row-clause-told : goal.visit_rows-returns-in_err-visit_row-clause-told
+visit_rows-returns-in_err-visit_row-clause-told t c =
     let p = err_from_is_err_and c.from_residual.result c.from_residual.ensures.1 in
     let sc = scope_view c.args.scope.now in
     let types = types_view c.args.names.now in
     let around = around_view c.args.around in
     let k = c.loop-row.row-index in
     let s = c.in_err-visit_row.field-0.0 in
-    let whole = c.loop-row.invariant ∙ ap (λ l. rows_typed (rows_view l) sc types around c.loop-row.out.nodes) (left_at c.args.rows.now k c.row-item.result c.row-item.result c.loop-row-test.true c.row-item.is) in
-    record {
-      told = rw (p.1, p.2) (subst (λ told. Tells {R = Unit {0}} (Err s) (λ u. c.visit_row.new.out.nodes) told) (sym whole)
-          (part_tells s (λ u. c.visit_row.new.out.nodes) (λ u. c.visit_row.new.out.nodes) (row_typed (row_view c.row-item.result) sc types around c.loop-row.out.nodes)
-          (λ m. rows_typed (rows_view (drop (k + 1) c.args.rows.now)) sc types around m) c.in_err-visit_row.ensures.told));
-    }
+    let whole = c.loop-row.invariant.0 ∙ ap (λ l. rows_typed (rows_view l) sc types around c.loop-row.out.nodes) (left_at c.args.rows.now k c.row-item.result c.row-item.result c.loop-row-test.true c.row-item.is) in
+    rw (p.1, p.2) (subst (λ told. Tells {R = Unit {0}} (Err s) (λ u. c.visit_row.new.out.nodes) told) (sym whole)
+    (part_tells s (λ u. c.visit_row.new.out.nodes) (λ u. c.visit_row.new.out.nodes) (row_typed (row_view c.row-item.result) sc types around c.loop-row.out.nodes)
+    (λ m. rows_typed (rows_view (drop (k + 1) c.args.rows.now)) sc types around m) c.in_err-visit_row.ensures.told))
+
+pub lower_unary-returns-in_err-x-clause-told : goal.lower_unary-returns-in_err-x-clause-told
+lower_unary-returns-in_err-x-clause-told t c =
+    let p = err_from_is_err_and c.from_residual.result c.from_residual.ensures.1 in
+    let sc = scope_view c.args.scope.now in
+    rw (p.1, p.2) (part_tells c.in_err-x.field-0.0 (typed_view c.lower_expr.new.out.nodes) (typed_view c.lower_expr.new.out.nodes)
+    (typed (expr_view c.args.part.now) sc (types_view c.args.names.now) (around_view c.args.around) c.args.out.now.nodes) (λ r. sign_typed sc c.args.at c.args.op r.0 r.1) c.in_err-x.ensures.told)
+
+pub lower_unary-returns-clause-told : goal.lower_unary-returns-clause-told
+lower_unary-returns-clause-told t c =
+    let sc = scope_view c.args.scope.now in
+    next_tells c.lower_sign.result (typed_view c.lower_sign.new.out.nodes) (typed (expr_view c.args.part.now) sc (types_view c.args.names.now) (around_view c.args.around) c.args.out.now.nodes)
+    (typed_view c.lower_expr.new.out.nodes c.in_ok-x.x) (λ r. sign_typed sc c.args.at c.args.op r.0 r.1) c.in_ok-x.ensures.told c.lower_sign.ensures.told
+
+pub lower_unary-returns-clause-low : goal.lower_unary-returns-clause-low
+lower_unary-returns-clause-low t c =
+    sign_low c.args.op (scope_view c.args.scope.now).context c.args.at (expr_view c.args.part.now) (names_view c.args.names.now) (emitted_view c.args.out.now)
+    (low_view c.in_ok-x.x c.lower_expr.new.out) c.lower_sign.result c.lower_sign.new.out c.in_ok-x.ensures.low c.lower_sign.ensures.low
+
+pub lower_call-returns-in_err-x-clause-told : goal.lower_call-returns-in_err-x-clause-told
+lower_call-returns-in_err-x-clause-told t c opens =
+    let p = err_from_is_err_and c.from_residual.result c.from_residual.ensures.1 in
+    let sc = scope_view c.args.scope.now in
+    let types = types_view c.args.names.now in
+    let s = c.in_err-x.field-0.0 in
+    let view = typed_view c.lower_expr.new.out.nodes in
+    rw (p.1, p.2) (subst (λ o. Tells (Err s) view (typed (expr_view c.args.e.now) sc types o c.args.out.now.nodes >>= call_typed sc types c.args.at c.args.name.now)) c.inside-inner.ensures
+    (part_tells s view view (typed (expr_view c.args.e.now) sc types (around_view c.inside-inner.result) c.args.out.now.nodes) (call_typed sc types c.args.at c.args.name.now) c.in_err-x.ensures.told))
+
+pub lower_call-returns-clause-told : goal.lower_call-returns-clause-told
+lower_call-returns-clause-told t c opens =
+    let sc = scope_view c.args.scope.now in
+    let types = types_view c.args.names.now in
+    let view = typed_view c.call_on.new.out.nodes in
+    subst (λ o. Tells c.call_on.result view (typed (expr_view c.args.e.now) sc types o c.args.out.now.nodes >>= call_typed sc types c.args.at c.args.name.now)) c.inside-inner.ensures
+    (next_tells c.call_on.result view (typed (expr_view c.args.e.now) sc types (around_view c.inside-inner.result) c.args.out.now.nodes) (typed_view c.lower_expr.new.out.nodes c.in_ok-x.x)
+    (call_typed sc types c.args.at c.args.name.now) c.in_ok-x.ensures.told c.call_on.ensures.told)
+
+pub lower_call-returns-clause-low : goal.lower_call-returns-clause-low
+lower_call-returns-clause-low t c opens =
+    call_low (scope_view c.args.scope.now).context c.args.at c.args.name.now opens (expr_view c.args.e.now) (names_view c.args.names.now) (emitted_view c.args.out.now)
+    (low_view c.in_ok-x.x c.lower_expr.new.out) c.call_on.result c.call_on.new.out c.in_ok-x.ensures.low c.call_on.ensures.abs c.call_on.ensures.low
+
+pub lower_single-returns-in-All-clause-told : goal.lower_single-returns-in-All-clause-told
+lower_single-returns-in-All-clause-told t c opens =
+    let sc = scope_view c.args.scope.now in
+    let types = types_view c.args.names.now in
+    let around = around_view c.args.around in
+    let n = c.args.out.now.nodes in
+    err_tells c.access.result (typed_view n) (typed (ast.Apply c.args.at c.args.name.now opens (args_view (c.args.arg.now ∷ []))) sc types around n)
+    (subst (λ l. StopTells c.access.result (typed (ast.Apply c.args.at c.args.name.now opens l) sc types around n)) (sym (all_view c.args.arg.now c.in-All.is))
+    (stops_behind c.access.result (Passes n) n (λ m. apply_typed sc types c.args.at c.args.name.now 1) refl c.access.ensures))
+
+pub lower_single-returns-in-Item-clause-told : goal.lower_single-returns-in-Item-clause-told
+lower_single-returns-in-Item-clause-told t c opens =
+    subst (λ l. Tells c.lower_call.result (typed_view c.lower_call.new.out.nodes) (typed (ast.Apply c.args.at c.args.name.now opens l) (scope_view c.args.scope.now) (types_view c.args.names.now) (around_view c.args.around) c.args.out.now.nodes))
+    (sym (item_view c.args.arg.now c.in-Item.e c.in-Item.is)) (c.lower_call.ensures.told opens)
+
+pub lower_single-returns-in-Item-clause-low : goal.lower_single-returns-in-Item-clause-low
+lower_single-returns-in-Item-clause-low t c opens =
+    subst (λ l. IfOk c.lower_call.result (λ o. IsLowered (ast.Apply c.args.at c.args.name.now opens l) (scope_view c.args.scope.now).context (names_view c.args.names.now) (emitted_view c.args.out.now) (low_view o c.lower_call.new.out)))
+    (sym (item_view c.args.arg.now c.in-Item.e c.in-Item.is)) (c.lower_call.ensures.low opens)
+
+pub lower_apply-returns-else-args-eq1-clause-told : goal.lower_apply-returns-else-args-eq1-clause-told
+lower_apply-returns-else-args-eq1-clause-told t c opens =
+    let sc = scope_view c.args.scope.now in
+    let types = types_view c.args.names.now in
+    let around = around_view c.args.around in
+    let n = c.args.out.now.nodes in
+    err_tells c.refuse_apply.result (typed_view c.refuse_apply.new.out.nodes) (typed (ast.Apply c.args.at c.args.name.now opens (args_view c.args.args.now)) sc types around n)
+    (subst (StopTells c.refuse_apply.result) (sym (many_told c.args.args.now c.args.at c.args.name.now opens sc types around n c.if-args-eq1.false)) c.refuse_apply.ensures.told)
+
+pub lower_expr-returns-in-Apply-clause-low : goal.lower_expr-returns-in-Apply-clause-low
+lower_expr-returns-in-Apply-clause-low t c =
+    let at = (out-Expr c.args.e.now).place in
+    let view : expr_view c.args.e.now ≡ ast.Apply at c.as_bytes-text.result.now c.in-Apply.paren (args_view c.as_slice.result.now) =
+    apply_view c.args.e.now c.in-Apply.name c.in-Apply.paren c.in-Apply.args c.in-Apply.is ∙ (λ i. ast.Apply at (sym c.as_bytes-text.ensures i) c.in-Apply.paren (args_view (sym c.as_slice.ensures i))) in
+    subst (λ x. IfOk c.lower_apply.result (λ o. IsLowered x (scope_view c.args.scope.now).context (names_view c.args.names.now) (emitted_view c.args.out.now) (low_view o c.lower_apply.new.out))) (sym view)
+    (c.lower_apply.ensures.low c.in-Apply.paren)

@@ -14,7 +14,7 @@ returns-in_default-clause-told c =
     let n = c.args.out.now.nodes in
     stop_tells c.unbuilt.result (typed_view n) (operator_typed sc c.args.at (task_of c.args.op) x y n) code.Unsupported c.args.at (sc.shown c.args.at) c.unbuilt.ensures
     (later_told sc c.args.at (task_of c.args.op) x y n
-    (later c.args.op c.in_default.not-Add c.in_default.not-Mul c.in_default.not-Div c.in_default.not-ElemDiv c.in_default.not-LeftDiv c.in_default.not-ElemLeftDiv))
+    (later c.args.op c.in_default.not-Add c.in_default.not-Sub c.in_default.not-Mul c.in_default.not-ElemMul c.in_default.not-Div c.in_default.not-ElemDiv c.in_default.not-LeftDiv c.in_default.not-ElemLeftDiv))
 
 pub returns-in-Add-clause-told : goal.returns-in-Add-clause-told
 returns-in-Add-clause-told c =
@@ -27,3 +27,15 @@ returns-in-Mul-clause-told c =
     let sc = scope_view c.args.scope.now in
     subst (λ task. Tells c.lower_product.result (typed_view c.lower_product.new.out.nodes) (operator_typed sc c.args.at task (type_of c.args.x.now.num) (type_of c.args.y.now.num) c.args.out.now.nodes))
     (sym (ap task_of c.in-Mul.is)) (c.lower_product.ensures.told sc)
+
+pub returns-in-Sub-clause-told : goal.returns-in-Sub-clause-told
+returns-in-Sub-clause-told c =
+    let sc = scope_view c.args.scope.now in
+    subst (λ task. Tells c.lower_difference.result (typed_view c.lower_difference.new.out.nodes) (operator_typed sc c.args.at task (type_of c.args.x.now.num) (type_of c.args.y.now.num) c.args.out.now.nodes))
+    (sym (ap task_of c.in-Sub.is)) (c.lower_difference.ensures.told sc)
+
+pub returns-in-ElemMul-clause-told : goal.returns-in-ElemMul-clause-told
+returns-in-ElemMul-clause-told c =
+    let sc = scope_view c.args.scope.now in
+    subst (λ task. Tells c.lower_product-in-ElemMul.result (typed_view c.lower_product-in-ElemMul.new.out.nodes) (operator_typed sc c.args.at task (type_of c.args.x.now.num) (type_of c.args.y.now.num) c.args.out.now.nodes))
+    (sym (ap task_of c.in-ElemMul.is)) (c.lower_product-in-ElemMul.ensures.told sc)

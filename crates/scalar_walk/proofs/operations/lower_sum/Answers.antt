@@ -1,15 +1,14 @@
-use Rattle.std.proofs.Common.{sym, ◌∙◌, Ok}
+use Rattle.std.proofs.Common.{sym, ◌∙◌}
 use Rattle.num_type.specs.View.{type_of}
 use Rattle.fi_math.specs.View.{made_of}
-use Rattle.fi_eval.specs.Operators.{Sum}
 use Rattle.c_tree.specs.View.{expr_view}
 use Rattle.scalar_walk.specs.Lowered.{operation}
 use Rattle.scalar_walk.specs.View.{operand_view, emitted_view}
 use Rattle.scalar_walk.specs.Told.{Passes}
 use Rattle.scalar_walk.proofs.Tell.{sum_told}
 use Rattle.scalar_walk.proofs.Exact.{sum_is}
-use Rattle.scalar_walk.proofs.Lows.{add_found, sets_next}
-use Rattle.scalar_walk.proofs.walk.lower_sum.Goals as goal
+use Rattle.scalar_walk.proofs.Lows.{add_found, sets_sum}
+use Rattle.scalar_walk.proofs.operations.lower_sum.Goals as goal
 
 pub sum-requires : goal.sum-requires
 sum-requires c =
@@ -20,7 +19,7 @@ pub returns-clause-low : goal.returns-clause-low
 unfolding operation
 returns-clause-low c =
     let found = add_found c.usual.result c.add_type-made.result c.in_ok-num.num (type_of c.args.x.now.num) (type_of c.args.y.now.num) c.usual.ensures c.add_type-made.ensures c.in_ok-num.ensures.made in
-    sets_next (Ok c.in_ok-o.o) c.set.new.out c.count.new.out Sum (operand_view c.args.x.now) (operand_view c.args.y.now) (type_of c.in_ok-num.num) (expr_view c.in_ok-value.value) (emitted_view c.args.out.now) c.in_ok-o.ensures.low found c.in_ok-value.ensures c.in_ok-count.ensures.same
+    sets_sum c.in_ok-o.o c.set.new.out c.count.new.out (operand_view c.args.x.now) (operand_view c.args.y.now) (type_of c.in_ok-num.num) (expr_view c.in_ok-value.value) (emitted_view c.args.out.now) c.in_ok-o.ensures.low found c.in_ok-value.ensures c.in_ok-count.ensures.same
 
 pub returns-clause-told : goal.returns-clause-told
 returns-clause-told c =

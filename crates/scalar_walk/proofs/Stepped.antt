@@ -1,0 +1,166 @@
+-- The statements of an operation lead to a state in which its value stands.
+use Rattle.std.proofs.Common.{◌≡◌, ℕ, suc, ◌+◌, ◌≤◌, List, [], ◌∷◌, ◌++◌, length, map, ℤ, Some, refl, sym, ap, ◌∙◌, subst, arith, append_assoc, length-append}
+use Rattle.std.specs.Prelude.{slice_get}
+use Rattle.num_type.specs.declared.methods.Overflow.TheVariants.{Saturate}
+use Rattle.num_type.specs.Types.{NumericType, IsWithin}
+use Rattle.fi_quant.proofs.Exist.{fitted_inside}
+use Rattle.fi_math.specs.Govern.{usual}
+use Rattle.fi_ops.specs.Operations.{joined, negated, absolute}
+use Rattle.fi_eval.specs.Operators.{Work, Sum, Difference, Product, Unbuilt, result_type, element, Turn, Keep, Negate, Remove, turned_element}
+use Rattle.c_tree.specs.declared.tree.CWord.{CWord}
+use Rattle.c_tree.specs.Tree.{Exp, Sta, Set, Block}
+use Rattle.c_tree.specs.View.{block_of}
+use Rattle.c_tree.specs.Tokens.{sta_tokens}
+use Rattle.c_tree.specs.Outcome.{Outcome, Gives, UndefinedAt, PastBound, ◌>>=◌, bind}
+use Rattle.c_tree.specs.Meaning.{State, Flow, Went, Broke, Continued, Returned, run_sta, run_block, then_run, with_word}
+use Rattle.lower_scalar.specs.Part as part
+use Rattle.lower_scalar.specs.Part.{Part, IsPart, IsAfter, Does, AreDeclared, AllStand, word_for}
+use Rattle.scalar_walk.specs.Lowered.{Operand, Emitted, Low, next_low, set_next, operation, with_part, read_operand, IsOperated, IsTurned, Turns}
+use Rattle.scalar_walk.proofs.Ranges.{InRange, in_range_cases, cases_in_range}
+use Rattle.scalar_walk.proofs.Exact.{difference_within}
+use Rattle.scalar_walk.proofs.Says.{Says, word_z, read_says}
+use Rattle.scalar_walk.proofs.Makes.{Stands, makes_sum, makes_product}
+use Rattle.scalar_walk.proofs.Runs.{word_type, word_z_type, before, RunsTo, runs_both, set_runs, get_mapped, get_set_same, get_set_other, set_typed, get_behind, IsBelow, Keeps, keeps_both}
+
+-- a run of the statements of an operation, behind which its integer stands
+pub record Stepped (em : Emitted) (low : Low) (st : State) (all : List CWord) (z : ℤ) : Type 0 where
+  pub more : List Sta
+  pub is : low.emitted.sets ≡ em.sets ++ more
+  pub after : State
+  pub does : RunsTo more st after
+  pub stands : Stands after low.operand z
+  pub below : IsBelow low.operand.spot (length low.emitted.words)
+  pub keeps : Keeps (length em.words) st after
+  pub typed : map word_type after.words ≡ all
+  pub wider : length em.words ≤ length low.emitted.words
+
+-- the next variable takes a value
+pub set_step : (em : Emitted) (t : NumericType) (e : Exp) (z : ℤ) (st : State) (all rest : List CWord) → Says e st (word_z t.signed z) → InRange t.signed t.word z → IsWithin t → map word_type st.words ≡ all → all ≡ (em.words ++ (word_for t.signed ∷ [])) ++ rest → Stepped em (next_low t e em) st all z
+set_step em t e z st all rest says range limits typed fits =
+    let k : ℕ = length em.words in
+    let w = word_z t.signed z in
+    let here : slice_get all k ≡ Some (word_for t.signed) =
+    ap (λ ws. slice_get ws k) (fits ∙ append_assoc em.words (word_for t.signed ∷ []) rest) ∙ get_behind em.words rest (word_for t.signed) in
+    let old = get_mapped st.words k (word_for t.signed) (ap (λ ws. slice_get ws k) typed ∙ here) in
+    let same : word_type old.0 ≡ word_type w = old.2 ∙ sym (word_z_type t.signed z) in
+    let after = with_word st k w in
+    let one : length (em.words ++ (word_for t.signed ∷ [])) ≡ k + 1 = length-append em.words (word_for t.signed ∷ []) in
+    record {
+      more = Set k e ∷ [];
+      is = refl;
+      after = after;
+      does = set_runs st k e w old.0 says old.1 same;
+      stands = record { range = range; limits = limits; at = get_set_same st.words k w old.0 old.1 };
+      below = omega (arith, one);
+      keeps = record { inputs = refl; outputs = refl; words = λ j l. get_set_other st.words k j w l };
+      typed = set_typed st.words k w old.0 old.1 same ∙ typed;
+      wider = omega (arith, one);
+    }
+
+-- ---- parts
+
+-- where the first statements end, the others go on
+front_runs : (xs : List Sta) (rest : Block) (st mid : State) (n at : ℕ) → run_block (block_of xs) n st at ≡ Gives (Went mid) → (to : ℕ) × (run_block (before xs rest) n st at ≡ run_block rest n mid to)
+unfolding bind
+front_runs [] rest st mid n at h = let e : st ≡ mid = cc in (at, ap (λ s. run_block rest n s at) e)
+front_runs (x ∷ xs) rest st mid n at h = by (λ s g. front_runs xs rest s mid n (at + sta_tokens x) g) (run_sta x n st at) refl h
+  where
+    by : ((s : State) → run_block (block_of xs) n s (at + sta_tokens x) ≡ Gives (Went mid) → (to : ℕ) × (run_block (before xs rest) n s (at + sta_tokens x) ≡ run_block rest n mid to)) → (o : Outcome Flow) → run_sta x n st at ≡ o → (o >>= (λ flow. then_run flow (λ s. run_block (block_of xs) n s (at + sta_tokens x)))) ≡ Gives (Went mid)
+        → (to : ℕ) × ((run_sta x n st at >>= (λ flow. then_run flow (λ s. run_block (before xs rest) n s (at + sta_tokens x)))) ≡ run_block rest n mid to)
+    by next PastBound e h = absurd (cc)
+    by next (UndefinedAt k) e h = absurd (cc)
+    by next (Gives (Went s)) e h =
+        let r = next s h in
+        (r.0, ap (λ o. o >>= (λ flow. then_run flow (λ s. run_block (before xs rest) n s (at + sta_tokens x)))) e ∙ r.1)
+    by next (Gives (Broke s)) e h = absurd (cc)
+    by next (Gives (Continued s)) e h = absurd (cc)
+    by next (Gives (Returned k s)) e h = absurd (cc)
+
+-- words that stand behind others have their numbers
+pub declared : (xs ws rest : List CWord) → AreDeclared (length xs) ws ((xs ++ ws) ++ rest)
+declared xs [] rest = tt
+declared xs (w ∷ ws) rest =
+    let more : (xs ++ (w ∷ ws)) ++ rest ≡ ((xs ++ (w ∷ [])) ++ ws) ++ rest = ap (λ l. l ++ rest) (sym (append_assoc xs (w ∷ []) ws)) in
+    let one : length (xs ++ (w ∷ [])) ≡ suc (length xs) = omega (arith, length-append xs (w ∷ [])) in (
+      ap (λ l. slice_get l (length xs)) (append_assoc xs (w ∷ ws) rest) ∙ get_behind xs (ws ++ rest) w,
+      subst (λ k. AreDeclared k ws ((xs ++ (w ∷ ws)) ++ rest)) one (subst (AreDeclared (length (xs ++ (w ∷ []))) ws) (sym more) (declared (xs ++ (w ∷ [])) ws rest)),
+    )
+
+-- what a part reads stands
+pub operand_stands : (st : State) (o : Operand) (z : ℤ) → Stands st o z → part.Stands st (read_operand o) z
+operand_stands st o z h = record { in_range = cases_in_range o.num.signed o.num.word o.num.fraction z h.range; gives = (read_says o.spot o.num.signed z st h.at).says }
+
+-- a part, and then its value into the next variable
+pub part_step : (em : Emitted) (t : NumericType) (p : Part) (os : List part.Operand) (result : List ℤ → ℤ) (zs : List ℤ) (z : ℤ) (st : State) (all rest : List CWord) → IsPart os (length em.words) t.signed result p → AllStand st os zs → result zs ≡ z → InRange t.signed t.word z → IsWithin t → map word_type st.words ≡ all → all ≡ ((em.words ++ p.words) ++ (word_for t.signed ∷ [])) ++ rest → Stepped em (with_part t p em) st all z
+part_step em t p os result zs z st all rest is stand value range limits typed fits =
+    let n : ℕ = length em.words in
+    let fits_p : all ≡ (em.words ++ p.words) ++ ((word_for t.signed ∷ []) ++ rest) = fits ∙ append_assoc (em.words ++ p.words) (word_for t.signed ∷ []) rest in
+    let have : AreDeclared n p.words (map word_type st.words) = subst (AreDeclared n p.words) (sym (typed ∙ fits_p)) (declared em.words p.words ((word_for t.signed ∷ []) ++ rest)) in
+    let d = is.does st zs have stand in
+    let runs : RunsTo p.before st d.after = record { does = λ r n at. front_runs p.before r st d.after n at (d.runs n at) } in
+    let inputs : d.after.inputs ≡ st.inputs = ap (λ (s : State). s.inputs) d.same.rest in
+    let outputs : d.after.outputs ≡ st.outputs = ap (λ (s : State). s.outputs) d.same.rest in
+    let keeps : Keeps n st d.after = record { inputs = inputs; outputs = outputs; words = λ k l. d.same.below k l } in
+    let mid : Emitted = record { sets = em.sets ++ p.before; words = em.words ++ p.words } in
+    let says : Says p.value d.after (word_z t.signed z) = record { says = λ at. d.gives at ∙ ap (λ v. Gives (word_z t.signed v)) value } in
+    let s = set_step mid t p.value z d.after all rest says range limits (d.same.types ∙ typed) fits in
+    let more : n ≤ length mid.words = omega (arith, length-append em.words p.words) in
+    record {
+      more = p.before ++ s.more;
+      is = s.is ∙ append_assoc em.sets p.before s.more;
+      after = s.after;
+      does = runs_both p.before s.more st d.after s.after runs s.does;
+      stands = s.stands;
+      below = s.below;
+      keeps = keeps_both n (length mid.words) st d.after s.after more keeps s.keeps;
+      typed = s.typed;
+      wider = omega (arith, more, s.wider);
+    }
+
+-- ---- operations
+
+difference_in : (t a b : NumericType) (x y : ℤ) → 1 ≤ t.word → InRange t.signed t.word (element Difference usual t a b x y)
+unfolding joined
+difference_in t a b x y one = in_range_cases t.signed t.word t.fraction (element Difference usual t a b x y) (fitted_inside Saturate t _ one)
+
+turned_in : (turn : Turn) (a : NumericType) (x : ℤ) → 1 ≤ a.word → InRange a.signed a.word x → InRange a.signed a.word (turned_element turn usual a x)
+unfolding negated absolute
+turned_in Keep a x one h = h
+turned_in Negate a x one h = in_range_cases a.signed a.word a.fraction (turned_element Negate usual a x) (fitted_inside Saturate a _ one)
+turned_in Remove a x one h = in_range_cases a.signed a.word a.fraction (turned_element Remove usual a x) (fitted_inside Saturate a _ one)
+
+-- an operation on two operands
+pub operated_step : (work : Work) (t : NumericType) (a b : Operand) (em : Emitted) (low : Low) (x y : ℤ) (st : State) (all rest : List CWord) → result_type work usual a.num b.num ≡ Some t → IsOperated work t a b em low → Stands st a x → Stands st b y → map word_type st.words ≡ all → all ≡ low.emitted.words ++ rest → Stepped em low st all (element work usual t a.num b.num x y)
+unfolding IsOperated
+operated_step Sum t a b em low x y st all rest e h ha hb typed fits =
+    let m = makes_sum t a b x y st e ha hb in
+    let fits_made : all ≡ (em.words ++ (word_for t.signed ∷ [])) ++ rest = fits ∙ ap (λ l. l.emitted.words ++ rest) h in
+    subst (λ l. Stepped em l st all (element Sum usual t a.num b.num x y)) (sym h)
+    (subst (Stepped em (set_next Sum a b em t) st all) (sym m.is) (set_step em t (operation Sum t a b) m.z st all rest m.says m.range m.limits typed fits_made))
+operated_step Product t a b em low x y st all rest e h ha hb typed fits =
+    let m = makes_product t a b x y st e ha hb in
+    let fits_made : all ≡ (em.words ++ (word_for t.signed ∷ [])) ++ rest = fits ∙ ap (λ l. l.emitted.words ++ rest) h in
+    subst (λ l. Stepped em l st all (element Product usual t a.num b.num x y)) (sym h)
+    (subst (Stepped em (set_next Product a b em t) st all) (sym m.is) (set_step em t (operation Product t a b) m.z st all rest m.says m.range m.limits typed fits_made))
+operated_step Difference t a b em low x y st all rest e h ha hb typed fits =
+    let within = difference_within a.num b.num t e in
+    let fits_made : all ≡ ((em.words ++ h.own.words) ++ (word_for t.signed ∷ [])) ++ rest = fits ∙ ap (λ l. l.emitted.words ++ rest) h.is in
+    subst (λ l. Stepped em l st all (element Difference usual t a.num b.num x y)) (sym h.is)
+    (part_step em t h.own (read_operand a ∷ read_operand b ∷ []) _ (x ∷ y ∷ []) (element Difference usual t a.num b.num x y) st all rest h.subtracts
+    (operand_stands st a x ha, (operand_stands st b y hb, tt)) refl (difference_in t a.num b.num x y within.one_bit) within typed fits_made)
+operated_step Unbuilt t a b em low x y st all rest e h ha hb typed fits = absurd (cc)
+
+-- an operation with one operand
+pub turned_step : (turn : Turn) (a : Operand) (em : Emitted) (low : Low) (x : ℤ) (st : State) (all rest : List CWord) → IsTurned turn a em low → Stands st a x → map word_type st.words ≡ all → all ≡ low.emitted.words ++ rest → Stepped em low st all (turned_element turn usual a.num x)
+unfolding Turns
+turned_step Keep a em low x st all rest h ha typed fits = absurd h.turns
+turned_step Negate a em low x st all rest h ha typed fits =
+    let fits_made : all ≡ ((em.words ++ h.own.words) ++ (word_for a.num.signed ∷ [])) ++ rest = fits ∙ ap (λ l. l.emitted.words ++ rest) h.is in
+    subst (λ l. Stepped em l st all (turned_element Negate usual a.num x)) (sym h.is)
+    (part_step em a.num h.own (read_operand a ∷ []) _ (x ∷ []) (turned_element Negate usual a.num x) st all rest h.turns
+    (operand_stands st a x ha, tt) refl (turned_in Negate a.num x ha.limits.one_bit ha.range) ha.limits typed fits_made)
+turned_step Remove a em low x st all rest h ha typed fits =
+    let fits_made : all ≡ ((em.words ++ h.own.words) ++ (word_for a.num.signed ∷ [])) ++ rest = fits ∙ ap (λ l. l.emitted.words ++ rest) h.is in
+    subst (λ l. Stepped em l st all (turned_element Remove usual a.num x)) (sym h.is)
+    (part_step em a.num h.own (read_operand a ∷ []) _ (x ∷ []) (turned_element Remove usual a.num x) st all rest h.turns
+    (operand_stands st a x ha, tt) refl (turned_in Remove a.num x ha.limits.one_bit ha.range) ha.limits typed fits_made)
