@@ -1,0 +1,4 @@
+pub mod Formed
+pub mod Lowered
+pub mod Ready
+pub mod Types

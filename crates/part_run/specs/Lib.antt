@@ -1,0 +1,2 @@
+pub mod PartProgram
+pub mod Output
