@@ -14,7 +14,7 @@ use Rattle.c_tree.specs.Tree.{Sta}
 use Rattle.c_tree.specs.Meaning.{State}
 use Rattle.scalar_walk.specs.Walk.{with_type}
 use Rattle.scalar_walk.specs.Lowered.{Operand, Names, Emitted, IsStaLowered, IsBlockLowered, Behind}
-use Rattle.scalar_walk.proofs.Makes.{Stands, or_left, or_right}
+use Rattle.scalar_walk.proofs.Says.{Stands, or_left, or_right}
 use Rattle.scalar_walk.proofs.Runs.{word_type, RunsTo, runs_nothing, runs_both, IsBelow, Keeps, keeps_both, Adds, adds_nothing, adds_both, some_is, rest_of}
 use Rattle.scalar_walk.proofs.Expressions.{Sees, sees_after, fi_of, adds, runs}
 

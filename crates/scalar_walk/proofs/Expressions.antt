@@ -19,7 +19,7 @@ use Rattle.c_tree.specs.declared.tree.CWord.{CWord}
 use Rattle.c_tree.specs.Tree.{Sta}
 use Rattle.c_tree.specs.Meaning.{State}
 use Rattle.scalar_walk.specs.Lowered.{Operand, Names, Emitted, Low, IsLowered, IsOperated, IsTurned, IsSigned}
-use Rattle.scalar_walk.proofs.Makes.{Stands}
+use Rattle.scalar_walk.proofs.Says.{Stands}
 use Rattle.scalar_walk.proofs.Runs.{word_type, RunsTo, runs_nothing, runs_both, IsBelow, below_more, Keeps, keeps_both, keeps_stands, Adds, adds_nothing, adds_both, rest_of}
 use Rattle.scalar_walk.proofs.Stepped.{Stepped, operated_step, turned_step}
 
@@ -59,11 +59,7 @@ part_adds : (em : Emitted) (ss : List Sta) (ws : List CWord) (last : Sta) (word 
 part_adds em ss ws last word = record { more = ss ++ (last ∷ []); sets = append_assoc em.sets ss (last ∷ []); extra = ws ++ (word ∷ []); words = append_assoc em.words ws (word ∷ []) }
 
 pub operated_adds : (work : Work) (t : NumericType) (a b : Operand) (em : Emitted) (low : Low) → IsOperated work t a b em low → Adds em low.emitted
-unfolding IsOperated
-operated_adds Sum t a b em low h = subst (λ l. Adds em l.emitted) (sym h) (record { more = _; sets = refl; extra = _; words = refl })
-operated_adds Product t a b em low h = subst (λ l. Adds em l.emitted) (sym h) (record { more = _; sets = refl; extra = _; words = refl })
-operated_adds Unbuilt t a b em low h = subst (λ l. Adds em l.emitted) (sym h) (record { more = _; sets = refl; extra = _; words = refl })
-operated_adds Difference t a b em low h = subst (λ l. Adds em l.emitted) (sym h.is) (part_adds em h.own.before h.own.words _ _)
+operated_adds work t a b em low h = subst (λ l. Adds em l.emitted) (sym h.is) (part_adds em h.own.before h.own.words _ _)
 
 pub turned_adds : (turn : Turn) (a : Operand) (em : Emitted) (low : Low) → IsTurned turn a em low → Adds em low.emitted
 turned_adds turn a em low h = subst (λ l. Adds em l.emitted) (sym h.is) (part_adds em h.own.before h.own.words _ _)
@@ -139,11 +135,7 @@ both_step cx env a b whole em x y low z st all p q s gives = record {
 
 -- the type of what an operation gives
 operated_num : (work : Work) (t : NumericType) (a b : Operand) (em : Emitted) (low : Low) → IsOperated work t a b em low → low.operand.num ≡ t
-unfolding IsOperated
-operated_num Sum t a b em low h = ap (λ (l : Low). l.operand.num) h
-operated_num Product t a b em low h = ap (λ (l : Low). l.operand.num) h
-operated_num Unbuilt t a b em low h = ap (λ (l : Low). l.operand.num) h
-operated_num Difference t a b em low h = ap (λ (l : Low). l.operand.num) h.is
+operated_num work t a b em low h = ap (λ (l : Low). l.operand.num) h.is
 
 turned_num : (turn : Turn) (a : Operand) (em : Emitted) (low : Low) → IsTurned turn a em low → low.operand.num ≡ a.num
 turned_num turn a em low h = ap (λ (l : Low). l.operand.num) h.is

@@ -1,32 +1,27 @@
 -- The statements of a program are well formed, and not deep.
-use Rattle.std.proofs.Common.{◌≡◌, ℕ, suc, ◌+◌, ◌^◌, ◌<◌, ◌≤◌, Bool, true, false, not, ◌&&◌, ◌||◌, List, [], ◌∷◌, ◌++◌, length, ℤ, Some, refl, sym, ap, ◌∙◌, subst, arith, append_assoc, if◌then◌else◌, nat_lt}
-use Rattle.std.specs.Prelude.{slice_get, nat_abs, ◌-ℤ◌, nat_eq, All}
+use Rattle.std.proofs.Common.{◌≡◌, ℕ, suc, ◌≤◌, Bool, true, false, ◌&&◌, List, [], ◌∷◌, ◌++◌, length, ℤ, Some, refl, sym, ap, ◌∙◌, subst, arith, append_assoc}
+use Rattle.std.specs.Prelude.{slice_get, All}
 use Rattle.std.proofs.lemmas.List.Elements.{All-nil, All-cons}
 use Rattle.mat_ast.specs.declared.tree.UnOp.{UnOp}
 use Rattle.mat_ast.specs.declared.tree.UnOp.TheVariants as un
 use Rattle.mat_ast.specs.Tree as ast
 use Rattle.mat_ast.specs.Tree.{Number, Words, Name, Apply, NoArgs, Whole, Item, End, Unary, Post, Range, RangeBy, Paren, Matrix}
 use Rattle.num_type.specs.Types.{NumericType, IsWithin}
-use Rattle.fi_math.specs.Full.{full_sum}
 use Rattle.fi_math.specs.Govern.{usual}
-use Rattle.fi_eval.specs.Operators.{Work, Sum, Difference, Product, Unbuilt, work_of, result_type, Turn, Keep, Negate, Remove}
+use Rattle.fi_eval.specs.Operators.{Work, work_of, result_type, Turn, Keep, Negate, Remove}
 use Rattle.fi_eval.specs.Meaning.{Context}
 use Rattle.c_tree.specs.declared.tree.CWord.{CWord}
 use Rattle.c_tree.specs.declared.tree.CWord.TheVariants.{I64, U64}
-use Rattle.c_tree.specs.declared.tree.COp.{COp}
-use Rattle.c_tree.specs.declared.tree.COp.TheVariants as op
-use Rattle.c_tree.specs.Tree.{Exp, Cast, Binary, Sta, Set, Store, If, IfElse, For, While, Break, Continue, Return}
+use Rattle.c_tree.specs.Tree.{Exp, Sta, Set, Store, If, IfElse, For, While, Break, Continue, Return}
 use Rattle.c_tree.specs.View.{block_of}
-use Rattle.c_tree.specs.WellFormed.{Scope, type_of_exp, operator_type, cast_type, given, is_one_type, is_fit, are_fit, loop_counters}
+use Rattle.c_tree.specs.WellFormed.{Scope, type_of_exp, is_one_type, is_fit, are_fit, loop_counters}
 use Rattle.c_tree.specs.Depth.{exp_depth, sta_depth, block_depth}
 use Rattle.lower_scalar.specs.Part as part
 use Rattle.lower_scalar.specs.Part.{Part, IsPart, IsTyped, AreInOrder, AreDeclared, deepest, word_for}
-use Rattle.scalar_walk.specs.Lowered.{Spot, Input, Variable, Operand, Names, Emitted, Low, IsLowered, IsOperated, IsTurned, IsSigned, Turns, next_low, with_part, read_operand, operation, read, widened, constant, aligned}
-use Rattle.scalar_walk.proofs.Ranges.{pow_mono, pow_step, pow_pos}
-use Rattle.scalar_walk.proofs.Exact.{product_is, sum_is, difference_within}
-use Rattle.scalar_walk.proofs.Makes.{or_left, or_right}
+use Rattle.scalar_walk.specs.Lowered.{Spot, Input, Variable, Operand, Names, Emitted, Low, IsLowered, IsOperated, IsTurned, IsSigned, Turns, next_low, with_part, read_operand, read}
+use Rattle.scalar_walk.proofs.Within.{operated_within}
 use Rattle.scalar_walk.proofs.Runs.{rest_of, get_behind}
-use Rattle.scalar_walk.proofs.Stepped.{declared}
+use Rattle.scalar_walk.proofs.Stepped.{declared, operated_part}
 use Rattle.scalar_walk.proofs.Expressions.{adds, operated_adds, turned_adds, signed_adds}
 
 -- an expression of this type
@@ -52,113 +47,11 @@ pub plain_append : (sc : Scope) (xs ys : List Sta) → ArePlain sc xs → ArePla
 plain_append sc [] ys p q = q
 plain_append sc (x ∷ xs) ys p q = (p.0, plain_append sc xs ys p.1 q)
 
--- ---- types
-
-widened_typed : (sc : Scope) (signed : Bool) (o : Operand) → (o.num.signed ≡ true → signed ≡ true) → IsGood sc o → HasType sc (widened signed o) (word_for signed)
-unfolding cast_type
-widened_typed sc signed o up good = by signed o.num.signed up good.typed
-  where
-    by : (s so : Bool) → (so ≡ true → s ≡ true) → HasType sc (read o.spot) (word_for so) → HasType sc (if s && not so then Cast I64 (read o.spot) else read o.spot) (word_for s)
-    by true true up h = h
-    by true false up h = ap (cast_type I64) h
-    by false true up h = absurd (let e : false ≡ true = up refl in cc)
-    by false false up h = h
-
-below_test : (m n : ℕ) → m < n → nat_lt m n ≡ true
-below_test m n h = grind arith
-
-power_below : (k n : ℕ) → k < n → 2 ^ k < 2 ^ n
-power_below k n h = let m = pow_mono (k + 1) n (omega (arith, h)) in let e = pow_step k in let one = pow_pos k in omega (arith, m, e, one)
-
-constant_typed : (sc : Scope) (signed : Bool) (k : ℕ) → k < 64 → (signed ≡ true → k < 63) → HasType sc (constant signed (2 ^ k)) (word_for signed)
-unfolding given
-constant_typed sc true k h g = ap (λ b. given b I64) (below_test (2 ^ k) (2 ^ 63) (power_below k 63 (g refl)))
-constant_typed sc false k h g = ap (λ b. given b U64) (below_test (2 ^ k) (2 ^ 64) (power_below k 64 h))
-
-binary_typed : (sc : Scope) (o : COp) (a b : Exp) (w : CWord) → operator_type o (Some w) (Some w) ≡ Some w → HasType sc a w → HasType sc b w → HasType sc (Binary o a b) w
-binary_typed sc o a b w same p q = (λ i. operator_type o (p i) (q i)) ∙ same
-
-adds_word : (w : CWord) → operator_type op.Add (Some w) (Some w) ≡ Some w
-unfolding operator_type
-adds_word I64 = refl
-adds_word U64 = refl
-
-multiplies_word : (w : CWord) → operator_type op.Mul (Some w) (Some w) ≡ Some w
-unfolding operator_type
-multiplies_word I64 = refl
-multiplies_word U64 = refl
-
-aligned_typed : (sc : Scope) (t : NumericType) (o : Operand) → (o.num.signed ≡ true → t.signed ≡ true) → nat_abs (t.fraction -ℤ o.num.fraction) < 63 → IsGood sc o → HasType sc (aligned t o) (word_for t.signed)
-aligned_typed sc t o up short good = by (nat_eq k 0)
-  where
-    k : ℕ
-    k = nat_abs (t.fraction -ℤ o.num.fraction)
-
-    by : (b : Bool) → HasType sc (if b then widened t.signed o else Binary op.Mul (widened t.signed o) (constant t.signed (2 ^ k))) (word_for t.signed)
-    by true = widened_typed sc t.signed o up good
-    by false = binary_typed sc op.Mul (widened t.signed o) (constant t.signed (2 ^ k)) (word_for t.signed) (multiplies_word (word_for t.signed))
-        (widened_typed sc t.signed o up good) (constant_typed sc t.signed k (omega (arith, short)) (λ e. short))
-
-product_typed : (sc : Scope) (t : NumericType) (a b : Operand) → result_type Product usual a.num b.num ≡ Some t → IsGood sc a → IsGood sc b → HasType sc (operation Product t a b) (word_for t.signed) × IsWithin t
-unfolding operation
-product_typed sc t a b e p q =
-    let h = product_is a.num b.num t e in
-    let s : Bool = a.num.signed || b.num.signed in
-    let one = widened_typed sc s a (λ e. or_left a.num.signed b.num.signed e) p in
-    let two = widened_typed sc s b (λ e. or_right a.num.signed b.num.signed e) q in (
-      subst (λ u. HasType sc (operation Product u a b) (word_for u.signed)) (sym h.0)
-          (binary_typed sc op.Mul (widened s a) (widened s b) (word_for s) (multiplies_word (word_for s)) one two),
-      h.3,
-    )
-
-sum_typed : (sc : Scope) (t : NumericType) (a b : Operand) → result_type Sum usual a.num b.num ≡ Some t → IsGood sc a → IsGood sc b → HasType sc (operation Sum t a b) (word_for t.signed) × IsWithin t
-unfolding operation
-sum_typed sc t a b e p q =
-    let h = sum_is a.num b.num t e in
-    let u : NumericType = full_sum a.num b.num in
-    let lim : u.word ≤ 64 = subst (λ v. v.word ≤ 64) h.0 h.2 in
-    let la : 1 ≤ a.num.word = p.limits.one_bit in
-    let lb : 1 ≤ b.num.word = q.limits.one_bit in
-    let one = aligned_typed sc u a (λ e. or_left a.num.signed b.num.signed e) (omega (arith, lim, la)) p in
-    let two = aligned_typed sc u b (λ e. or_right a.num.signed b.num.signed e) (omega (arith, lim, lb)) q in (
-      subst (λ v. HasType sc (operation Sum v a b) (word_for v.signed)) (sym h.0)
-          (binary_typed sc op.Add (aligned u a) (aligned u b) (word_for u.signed) (adds_word (word_for u.signed)) one two),
-      h.3,
-    )
-
 -- ---- depths
 
 read_depth : (spot : Spot) → exp_depth (read spot) ≤ 3
 read_depth (Input k) = omega arith
 read_depth (Variable k) = omega arith
-
-widened_depth : (signed : Bool) (o : Operand) → exp_depth (widened signed o) ≤ 4
-widened_depth signed o = by (signed && not o.num.signed)
-  where
-    by : (b : Bool) → exp_depth (if b then Cast I64 (read o.spot) else read o.spot) ≤ 4
-    by true = omega (arith, read_depth o.spot)
-    by false = omega (arith, read_depth o.spot)
-
-constant_depth : (signed : Bool) (n : ℕ) → exp_depth (constant signed n) ≤ 1
-constant_depth true n = omega arith
-constant_depth false n = omega arith
-
-aligned_depth : (t : NumericType) (o : Operand) → exp_depth (aligned t o) ≤ 5
-aligned_depth t o = by (nat_eq k 0)
-  where
-    k : ℕ
-    k = nat_abs (t.fraction -ℤ o.num.fraction)
-
-    by : (b : Bool) → exp_depth (if b then widened t.signed o else Binary op.Mul (widened t.signed o) (constant t.signed (2 ^ k))) ≤ 5
-    by true = omega (arith, widened_depth t.signed o)
-    by false = omega (arith, widened_depth t.signed o, constant_depth t.signed (2 ^ k))
-
-operation_depth : (work : Work) (t : NumericType) (a b : Operand) → exp_depth (operation work t a b) ≤ 6
-unfolding operation
-operation_depth Sum t a b = omega (arith, aligned_depth t a, aligned_depth t b)
-operation_depth Product t a b = omega (arith, widened_depth t.signed a, widened_depth t.signed b)
-operation_depth Difference t a b = omega (arith, read_depth a.spot)
-operation_depth Unbuilt t a b = omega (arith, read_depth a.spot)
 
 -- ---- expressions
 
@@ -224,22 +117,12 @@ operand_typed : (sc : Scope) (o : Operand) → IsGood sc o → IsTyped sc (read_
 operand_typed sc o h = record { typed = h.typed }
 
 operated_good : (work : Work) (sc : Scope) (t : NumericType) (a b : Operand) (em : Emitted) (low : Low) (rest : List CWord) → result_type work usual a.num b.num ≡ Some t → IsOperated work t a b em low → sc.words ≡ low.emitted.words ++ rest → ArePlain sc em.sets → IsGood sc a → IsGood sc b → GoodLow sc low
-unfolding IsOperated
-operated_good Sum sc t a b em low rest e h fits plain p q =
-    let o = sum_typed sc t a b e p q in
-    let fits_made : sc.words ≡ (em.words ++ (word_for t.signed ∷ [])) ++ rest = fits ∙ ap (λ l. l.emitted.words ++ rest) h in
-    subst (GoodLow sc) (sym h) (set_good sc t (operation Sum t a b) em rest fits_made plain o.0 (omega (arith, operation_depth Sum t a b)) o.1)
-operated_good Product sc t a b em low rest e h fits plain p q =
-    let o = product_typed sc t a b e p q in
-    let fits_made : sc.words ≡ (em.words ++ (word_for t.signed ∷ [])) ++ rest = fits ∙ ap (λ l. l.emitted.words ++ rest) h in
-    subst (GoodLow sc) (sym h) (set_good sc t (operation Product t a b) em rest fits_made plain o.0 (omega (arith, operation_depth Product t a b)) o.1)
-operated_good Difference sc t a b em low rest e h fits plain p q =
+operated_good work sc t a b em low rest e h fits plain p q =
     let fits_made : sc.words ≡ ((em.words ++ h.own.words) ++ (word_for t.signed ∷ [])) ++ rest = fits ∙ ap (λ l. l.emitted.words ++ rest) h.is in
     let typed : All (IsTyped sc) (read_operand a ∷ read_operand b ∷ []) =
     All-cons (IsTyped sc) (read_operand a) (read_operand b ∷ []) (operand_typed sc a p) (All-cons (IsTyped sc) (read_operand b) [] (operand_typed sc b q) (All-nil (IsTyped sc))) in
     subst (GoodLow sc) (sym h.is)
-    (part_good sc t h.own (read_operand a ∷ read_operand b ∷ []) _ em rest h.subtracts typed (omega (arith, read_depth a.spot, read_depth b.spot)) fits_made plain (difference_within a.num b.num t e))
-operated_good Unbuilt sc t a b em low rest e h fits plain p q = absurd (cc)
+    (part_good sc t h.own (read_operand a ∷ read_operand b ∷ []) _ em rest (operated_part work t a b (length em.words) h.own h.operates) typed (omega (arith, read_depth a.spot, read_depth b.spot)) fits_made plain (operated_within work a.num b.num t e))
 
 turned_good : (turn : Turn) (sc : Scope) (a : Operand) (em : Emitted) (low : Low) (rest : List CWord) → IsTurned turn a em low → sc.words ≡ low.emitted.words ++ rest → ArePlain sc em.sets → IsGood sc a → GoodLow sc low
 unfolding Turns

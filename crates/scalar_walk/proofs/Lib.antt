@@ -1,7 +1,6 @@
 pub mod Ranges
 pub mod Says
-pub mod Exact
-pub mod Makes
+pub mod Within
 pub mod Runs
 pub mod Stepped
 pub mod Expressions

@@ -10,10 +10,8 @@ use Rattle.num_type.specs.Types.{NumericType}
 use Rattle.fi_math.specs.declared.fimath.Fimath.{Fimath}
 use Rattle.fi_math.specs.declared.types.NoType.{NoType}
 use Rattle.fi_math.specs.View.{made_of}
-use Rattle.fi_math.specs.Made.{Is}
-use Rattle.fi_math.specs.Rules.{add_made, sub_made, product_made}
 use Rattle.fi_math.specs.Govern.{usual}
-use Rattle.fi_eval.specs.Operators.{Sum, Difference, Product, work_of, result_type, type_in, Turn, Negate, Remove}
+use Rattle.fi_eval.specs.Operators.{Work, work_of, result_type, type_in, Turn, Negate, Remove}
 use Rattle.fi_eval.specs.Meaning.{Context, is_abs}
 use Rattle.mat_ast.specs.declared.tree.BinOp.{BinOp}
 use Rattle.mat_ast.specs.declared.tree.UnOp.{UnOp}
@@ -23,12 +21,14 @@ use Rattle.mat_ast.specs.View.{stmt_view, block_view}
 use Rattle.mat_ast.specs.Tree as ast
 use Rattle.c_tree.specs.Tree.{Exp, Program}
 use Rattle.lower_scalar.specs.Part.{Part, reach}
-use Rattle.lower_scalar.specs.Operators.{Subtracts, Negates, TakesSign}
+use Rattle.lower_scalar.specs.Operators.{Negates, TakesSign}
 use Rattle.scalar_walk.specs.declared.operand.Operand as code
 use Rattle.scalar_walk.specs.declared.emitted.Emitted as code_emitted
 use Rattle.scalar_walk.specs.Walk.{with_type}
-use Rattle.scalar_walk.specs.Lowered.{Input, Operand, Emitted, Names, Low, Behind, IsLowered, IsStaLowered, IsBlockLowered, IsFunctionLowered, IsOperated, IsTurned, IsSigned, Turns, outputs_lowered, inputs_from, no_names, nothing_emitted, program_of, next_low, with_part, operation, read, read_operand}
-use Rattle.scalar_walk.specs.View.{operand_view, emitted_view, low_view, IsOperation, AreBelow}
+use Rattle.scalar_walk.specs.Lowered.{Input, Operand, Emitted, Names, Low, Behind, IsLowered, IsStaLowered, IsBlockLowered, IsFunctionLowered, Operates, IsTurned, IsSigned, Turns, outputs_lowered, inputs_from, no_names, nothing_emitted, program_of, with_part, read}
+use Rattle.scalar_walk.specs.View.{operand_view, emitted_view, low_view, IsOperation, AreBelow, pair_made, work_of_pair}
+use Rattle.scalar_walk.specs.declared.operations.Pair.{Pair}
+use Rattle.scalar_walk.specs.declared.operations.Pair.TheVariants as pair
 
 -- a variable that has a value
 pub name_low : (found : Option code.Operand) (names : Names) (name : List ℕ) (at : Place) (cx : Context) (x : code.Operand) (em later : code_emitted.Emitted) → found ≡ Some x → option_map operand_view found ≡ names name → emitted_view later ≡ emitted_view em → IsLowered (ast.Name at name) cx names (emitted_view em) (low_view x later)
@@ -37,40 +37,18 @@ name_low found names name at cx x em later f n e = (operand_view x, sym n ∙ ap
 pub name_below : (found : Option code.Operand) (names : Names) (name : List ℕ) (x : code.Operand) (n : ℕ) → AreBelow names n → found ≡ Some x → option_map operand_view found ≡ names name → reach (read (operand_view x).spot) ≤ n
 name_below found names name x n below f e = below name (operand_view x) (sym e ∙ ap (option_map operand_view) f)
 
--- the type of a sum or a product that was made
-pub add_found : (m : Fimath) (r : Result NumType NoType) (t : NumType) (a b : NumericType) → m ≡ usual → made_of r ≡ add_made m a b → r ≡ Ok t → result_type Sum usual a b ≡ Some (type_of t)
-unfolding type_in
-add_found m r t a b e h k = ap (λ n. type_in (add_made n a b)) (sym e) ∙ ap type_in (sym h) ∙ ap (λ s. type_in (made_of s)) k
+-- the type of what was made of two operands
+pub pair_found : (pair : Pair) (r : Result NumType NoType) (t : NumType) (a b : NumericType) → made_of r ≡ pair_made pair usual a b → r ≡ Ok t → result_type (work_of_pair pair) usual a b ≡ Some (type_of t)
+unfolding type_in pair_made
+pair_found pair.Sum r t a b h k = ap type_in (sym h) ∙ ap (λ s. type_in (made_of s)) k
+pair_found pair.Difference r t a b h k = ap type_in (sym h) ∙ ap (λ s. type_in (made_of s)) k
+pair_found pair.Product r t a b h k = ap type_in (sym h) ∙ ap (λ s. type_in (made_of s)) k
 
-pub product_found : (m : Fimath) (r : Result NumType NoType) (t : NumType) (a b : NumericType) → m ≡ usual → made_of r ≡ product_made m a b → r ≡ Ok t → result_type Product usual a b ≡ Some (type_of t)
-unfolding type_in
-product_found m r t a b e h k = ap (λ n. type_in (product_made n a b)) (sym e) ∙ ap type_in (sym h) ∙ ap (λ s. type_in (made_of s)) k
-
-pub difference_found : (m : Fimath) (r : Result NumType NoType) (t : NumType) (a b : NumericType) → m ≡ usual → made_of r ≡ sub_made m a b → r ≡ Ok t → result_type Difference usual a b ≡ Some (type_of t)
-unfolding type_in
-difference_found m r t a b e h k = ap (λ n. type_in (sub_made n a b)) (sym e) ∙ ap type_in (sym h) ∙ ap (λ s. type_in (made_of s)) k
-
-pub difference_made : (m : Fimath) (r : Result NumType NoType) (t : NumType) (a b : NumericType) → made_of r ≡ sub_made m a b → r ≡ Ok t → sub_made m a b ≡ Is (type_of t)
-difference_made m r t a b h k = sym h ∙ ap made_of k
-
--- the answer of a call that sets the next variable
-pub sets_sum : (o : code.Operand) (later em : code_emitted.Emitted) (x y : Operand) (t : NumericType) (e : Exp) (before : Emitted) → low_view o later ≡ next_low t e (emitted_view em) → result_type Sum usual x.num y.num ≡ Some t → e ≡ operation Sum t x y → emitted_view em ≡ before → IsOperation Sum x y before (low_view o later)
-unfolding IsOperated
-sets_sum o later em x y t e before h type value same = (t, type, h ∙ (λ i. next_low t (value i) (same i)))
-
-pub sets_product : (o : code.Operand) (later em : code_emitted.Emitted) (x y : Operand) (t : NumericType) (e : Exp) (before : Emitted) → low_view o later ≡ next_low t e (emitted_view em) → result_type Product usual x.num y.num ≡ Some t → e ≡ operation Product t x y → emitted_view em ≡ before → IsOperation Product x y before (low_view o later)
-unfolding IsOperated
-sets_product o later em x y t e before h type value same = (t, type, h ∙ (λ i. next_low t (value i) (same i)))
-
--- the answer of a call that adds a part
-pub sets_difference : (o : code.Operand) (later em : code_emitted.Emitted) (x y : Operand) (t : NumericType) (p : Part) (m : Fimath) (ea eb : Exp) (fresh : ℕ) (before : Emitted) → low_view o later ≡ with_part t p (emitted_view em) → result_type Difference usual x.num y.num ≡ Some t → Subtracts m t (record { num = x.num; exp = ea }) (record { num = y.num; exp = eb }) fresh p → m ≡ usual → ea ≡ read x.spot → eb ≡ read y.spot → fresh ≡ length em.words → emitted_view em ≡ before → IsOperation Difference x y before (low_view o later)
-unfolding IsOperated
-sets_difference o later em x y t p m ea eb fresh before h type is usual_m left right at same =
-    let here : fresh ≡ length before.words = at ∙ ap (λ (b : Emitted). length b.words) same in
-    let one : Subtracts usual t (record { num = x.num; exp = ea }) (record { num = y.num; exp = eb }) fresh p = subst (λ u. Subtracts u t (record { num = x.num; exp = ea }) (record { num = y.num; exp = eb }) fresh p) usual_m is in
-    let two : Subtracts usual t (read_operand x) (record { num = y.num; exp = eb }) fresh p = subst (λ e. Subtracts usual t (record { num = x.num; exp = e }) (record { num = y.num; exp = eb }) fresh p) left one in
-    let three : Subtracts usual t (read_operand x) (read_operand y) fresh p = subst (λ e. Subtracts usual t (read_operand x) (record { num = y.num; exp = e }) fresh p) right two in
-    (t, type, record { own = p; subtracts = subst (λ k. Subtracts usual t (read_operand x) (read_operand y) k p) here three; is = h ∙ ap (with_part t p) same })
+-- the answer of a call that adds the part of an operation
+pub sets_pair : (work : Work) (o : code.Operand) (later em : code_emitted.Emitted) (x y : Operand) (t : NumericType) (p : Part) (before : Emitted) → low_view o later ≡ with_part t p (emitted_view em) → result_type work usual x.num y.num ≡ Some t → Operates work t x y (length em.words) p → emitted_view em ≡ before → IsOperation work x y before (low_view o later)
+sets_pair work o later em x y t p before h type is same =
+    let here : length em.words ≡ length before.words = ap (λ (b : Emitted). length b.words) same in
+    (t, type, record { own = p; operates = subst (λ k. Operates work t x y k p) here is; is = h ∙ ap (with_part t p) same })
 
 -- a part that turns the sign of what it reads
 pub negates_turns : (x : Operand) (p : Part) (m : Fimath) (e : Exp) (fresh n : ℕ) → Negates m x.num e fresh p → m ≡ usual → e ≡ read x.spot → fresh ≡ n → Turns Negate x n p

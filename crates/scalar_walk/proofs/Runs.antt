@@ -9,7 +9,7 @@ use Rattle.c_tree.specs.Meaning.{Word, Int64, Uint64, State, Went, run_block, as
 use Rattle.lower_scalar.specs.Part.{word_for, kind_of}
 use Rattle.scalar_walk.specs.Lowered.{Spot, Input, Variable, Operand, Emitted, and_then}
 use Rattle.scalar_walk.proofs.Says.{At, Says, word_z}
-use Rattle.scalar_walk.proofs.Makes.{Stands}
+use Rattle.scalar_walk.proofs.Says.{Stands}
 
 -- ---- states
 

@@ -26,7 +26,7 @@ use Rattle.scalar_walk.specs.Lowered.{Spot, Input, Variable, Operand, Names, and
 use Rattle.scalar_walk.specs.Correspondence.{arrays_of, AreInputs, AreFilled}
 use Rattle.scalar_walk.proofs.Ranges.{InRange, in_range_cases, pow_mono, no_false, signed_between, widen, between_signed}
 use Rattle.scalar_walk.proofs.Says.{At, word_z, read_says, mod_small}
-use Rattle.scalar_walk.proofs.Makes.{Stands}
+use Rattle.scalar_walk.proofs.Says.{Stands}
 use Rattle.scalar_walk.proofs.Runs.{RunsTo, runs_nothing, runs_both, some_of, some_is}
 use Rattle.scalar_walk.proofs.Expressions.{Sees, fi_of}
 use Rattle.scalar_walk.proofs.Blocks.{Covers, any_front, any_behind, sees_assigned}

@@ -3,9 +3,10 @@ use Rattle.std.proofs.Common.{◌≡◌, ℕ, suc, ◌+◌, ◌≤◌, List, [],
 use Rattle.std.specs.Prelude.{slice_get}
 use Rattle.num_type.specs.declared.methods.Overflow.TheVariants.{Saturate}
 use Rattle.num_type.specs.Types.{NumericType, IsWithin}
+use Rattle.fi_quant.specs.Numbers.{quantised}
 use Rattle.fi_quant.proofs.Exist.{fitted_inside}
 use Rattle.fi_math.specs.Govern.{usual}
-use Rattle.fi_ops.specs.Operations.{joined, negated, absolute}
+use Rattle.fi_ops.specs.Operations.{joined, multiplied, taken, negated, absolute}
 use Rattle.fi_eval.specs.Operators.{Work, Sum, Difference, Product, Unbuilt, result_type, element, Turn, Keep, Negate, Remove, turned_element}
 use Rattle.c_tree.specs.declared.tree.CWord.{CWord}
 use Rattle.c_tree.specs.Tree.{Exp, Sta, Set, Block}
@@ -14,12 +15,12 @@ use Rattle.c_tree.specs.Tokens.{sta_tokens}
 use Rattle.c_tree.specs.Outcome.{Outcome, Gives, UndefinedAt, PastBound, ◌>>=◌, bind}
 use Rattle.c_tree.specs.Meaning.{State, Flow, Went, Broke, Continued, Returned, run_sta, run_block, then_run, with_word}
 use Rattle.lower_scalar.specs.Part as part
-use Rattle.lower_scalar.specs.Part.{Part, IsPart, IsAfter, Does, AreDeclared, AllStand, word_for}
-use Rattle.scalar_walk.specs.Lowered.{Operand, Emitted, Low, next_low, set_next, operation, with_part, read_operand, IsOperated, IsTurned, Turns}
+use Rattle.lower_scalar.specs.Part.{Part, IsPart, IsAfter, Does, AreDeclared, AllStand, word_for, on_two}
+use Rattle.scalar_walk.specs.Lowered.{Operand, Emitted, Low, next_low, with_part, read_operand, Operates, IsOperated, IsTurned, Turns}
 use Rattle.scalar_walk.proofs.Ranges.{InRange, in_range_cases, cases_in_range}
-use Rattle.scalar_walk.proofs.Exact.{difference_within}
+use Rattle.scalar_walk.proofs.Within.{operated_within}
 use Rattle.scalar_walk.proofs.Says.{Says, word_z, read_says}
-use Rattle.scalar_walk.proofs.Makes.{Stands, makes_sum, makes_product}
+use Rattle.scalar_walk.proofs.Says.{Stands}
 use Rattle.scalar_walk.proofs.Runs.{word_type, word_z_type, before, RunsTo, runs_both, set_runs, get_mapped, get_set_same, get_set_other, set_typed, get_behind, IsBelow, Keeps, keeps_both}
 
 -- a run of the statements of an operation, behind which its integer stands
@@ -119,9 +120,20 @@ part_step em t p os result zs z st all rest is stand value range limits typed fi
 
 -- ---- operations
 
-difference_in : (t a b : NumericType) (x y : ℤ) → 1 ≤ t.word → InRange t.signed t.word (element Difference usual t a b x y)
-unfolding joined
-difference_in t a b x y one = in_range_cases t.signed t.word t.fraction (element Difference usual t a b x y) (fitted_inside Saturate t _ one)
+-- the part of an operation
+pub operated_part : (work : Work) (t : NumericType) (a b : Operand) (fresh : ℕ) (p : Part) → Operates work t a b fresh p → IsPart (read_operand a ∷ read_operand b ∷ []) fresh t.signed (on_two (element work usual t a.num b.num)) p
+unfolding Operates
+operated_part Sum t a b fresh p h = h
+operated_part Difference t a b fresh p h = h
+operated_part Product t a b fresh p h = h
+operated_part Unbuilt t a b fresh p h = absurd h
+
+operated_in : (work : Work) (t a b : NumericType) (x y : ℤ) → result_type work usual a b ≡ Some t → 1 ≤ t.word → InRange t.signed t.word (element work usual t a b x y)
+unfolding joined multiplied taken quantised
+operated_in Sum t a b x y e one = in_range_cases t.signed t.word t.fraction (element Sum usual t a b x y) (fitted_inside Saturate t _ one)
+operated_in Difference t a b x y e one = in_range_cases t.signed t.word t.fraction (element Difference usual t a b x y) (fitted_inside Saturate t _ one)
+operated_in Product t a b x y e one = in_range_cases t.signed t.word t.fraction (element Product usual t a b x y) (fitted_inside Saturate t _ one)
+operated_in Unbuilt t a b x y e one = absurd (cc)
 
 turned_in : (turn : Turn) (a : NumericType) (x : ℤ) → 1 ≤ a.word → InRange a.signed a.word x → InRange a.signed a.word (turned_element turn usual a x)
 unfolding negated absolute
@@ -131,24 +143,12 @@ turned_in Remove a x one h = in_range_cases a.signed a.word a.fraction (turned_e
 
 -- an operation on two operands
 pub operated_step : (work : Work) (t : NumericType) (a b : Operand) (em : Emitted) (low : Low) (x y : ℤ) (st : State) (all rest : List CWord) → result_type work usual a.num b.num ≡ Some t → IsOperated work t a b em low → Stands st a x → Stands st b y → map word_type st.words ≡ all → all ≡ low.emitted.words ++ rest → Stepped em low st all (element work usual t a.num b.num x y)
-unfolding IsOperated
-operated_step Sum t a b em low x y st all rest e h ha hb typed fits =
-    let m = makes_sum t a b x y st e ha hb in
-    let fits_made : all ≡ (em.words ++ (word_for t.signed ∷ [])) ++ rest = fits ∙ ap (λ l. l.emitted.words ++ rest) h in
-    subst (λ l. Stepped em l st all (element Sum usual t a.num b.num x y)) (sym h)
-    (subst (Stepped em (set_next Sum a b em t) st all) (sym m.is) (set_step em t (operation Sum t a b) m.z st all rest m.says m.range m.limits typed fits_made))
-operated_step Product t a b em low x y st all rest e h ha hb typed fits =
-    let m = makes_product t a b x y st e ha hb in
-    let fits_made : all ≡ (em.words ++ (word_for t.signed ∷ [])) ++ rest = fits ∙ ap (λ l. l.emitted.words ++ rest) h in
-    subst (λ l. Stepped em l st all (element Product usual t a.num b.num x y)) (sym h)
-    (subst (Stepped em (set_next Product a b em t) st all) (sym m.is) (set_step em t (operation Product t a b) m.z st all rest m.says m.range m.limits typed fits_made))
-operated_step Difference t a b em low x y st all rest e h ha hb typed fits =
-    let within = difference_within a.num b.num t e in
+operated_step work t a b em low x y st all rest e h ha hb typed fits =
+    let within = operated_within work a.num b.num t e in
     let fits_made : all ≡ ((em.words ++ h.own.words) ++ (word_for t.signed ∷ [])) ++ rest = fits ∙ ap (λ l. l.emitted.words ++ rest) h.is in
-    subst (λ l. Stepped em l st all (element Difference usual t a.num b.num x y)) (sym h.is)
-    (part_step em t h.own (read_operand a ∷ read_operand b ∷ []) _ (x ∷ y ∷ []) (element Difference usual t a.num b.num x y) st all rest h.subtracts
-    (operand_stands st a x ha, (operand_stands st b y hb, tt)) refl (difference_in t a.num b.num x y within.one_bit) within typed fits_made)
-operated_step Unbuilt t a b em low x y st all rest e h ha hb typed fits = absurd (cc)
+    subst (λ l. Stepped em l st all (element work usual t a.num b.num x y)) (sym h.is)
+    (part_step em t h.own (read_operand a ∷ read_operand b ∷ []) (on_two (element work usual t a.num b.num)) (x ∷ y ∷ []) (element work usual t a.num b.num x y) st all rest (operated_part work t a b (length em.words) h.own h.operates)
+    (operand_stands st a x ha, (operand_stands st b y hb, tt)) refl (operated_in work t a.num b.num x y e within.one_bit) within typed fits_made)
 
 -- an operation with one operand
 pub turned_step : (turn : Turn) (a : Operand) (em : Emitted) (low : Low) (x : ℤ) (st : State) (all rest : List CWord) → IsTurned turn a em low → Stands st a x → map word_type st.words ≡ all → all ≡ low.emitted.words ++ rest → Stepped em low st all (turned_element turn usual a.num x)

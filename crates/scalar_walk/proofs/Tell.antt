@@ -10,13 +10,14 @@ use Rattle.fic_base.specs.declared.refusal.Refusal.{Refusal}
 use Rattle.num_type.specs.declared.memory.Stop.{Stop}
 use Rattle.num_type.specs.declared.memory.Stop.TheVariants as stop
 use Rattle.num_type.specs.Types.{NumericType}
-use Rattle.fi_math.specs.declared.fimath.Fimath.{Fimath}
 use Rattle.fi_math.specs.Made.{Made}
 use Rattle.fi_math.specs.Rules.{product_made, add_made, sub_made}
 use Rattle.fi_math.specs.Govern.{usual}
-use Rattle.scalar_walk.specs.Walk.{Scope, Task, Later, task_of, Sum, Difference, Product, counted, within, operator_typed}
+use Rattle.scalar_walk.specs.Walk.{Scope, Typed, Task, Later, task_of, counted, within, operator_typed}
 use Rattle.scalar_walk.specs.Told.{Told, Passes, Refuses, ◌>>=◌, bind}
-use Rattle.scalar_walk.specs.View.{Tells, StopTells, IsStop}
+use Rattle.scalar_walk.specs.View.{Tells, StopTells, IsStop, pair_made, task_of_pair}
+use Rattle.scalar_walk.specs.declared.operations.Pair.{Pair}
+use Rattle.scalar_walk.specs.declared.operations.Pair.TheVariants as pair
 
 -- a refusal of these three parts
 same_refusal : {A : Type 0} (told : Told A) (c d : Code) (p q : Place) (s t : List ℕ) → c ≡ d → p ≡ q → s ≡ t → told ≡ Refuses d q t → told ≡ Refuses c p s
@@ -50,32 +51,28 @@ passed told x next h = ap (λ t. bind t next) h
 pub next_tells : {S A B : Type 0} (r : Result S (Stop Refusal)) (whole : S → B) (told : Told A) (x : A) (next : A → Told B) → told ≡ Passes x → Tells r whole (next x) → Tells r whole (told >>= next)
 next_tells r whole told x next h t = subst (Tells r whole) (sym (passed told x next h)) t
 
--- a sum that is counted and has a type
-pub sum_told : (sc : Scope) (at : Place) (x y : NumericType) (nodes counts : ℕ) (t : NumericType) (m : Fimath) (made : Made) → counted at nodes ≡ Passes counts → within at made ≡ Passes t → made ≡ add_made m x y → m ≡ usual → operator_typed sc at Sum x y nodes ≡ Passes (t, counts)
-unfolding bind operator_typed
-sum_told sc at x y nodes counts t m made c w e u =
-    ap (λ g. bind g (λ n. bind (within at (add_made usual x y)) (λ s. Passes (s, n)))) c
-    ∙ ap (λ g. bind (within at (add_made g x y)) (λ s. Passes (s, counts))) (sym u)
-    ∙ ap (λ g. bind (within at g) (λ s. Passes (s, counts))) (sym e)
-    ∙ ap (λ g. bind g (λ s. Passes (s, counts))) w
+-- an operation on two operands that is counted and has a type
+pub pair_told : (pair : Pair) (sc : Scope) (at : Place) (x y : NumericType) (nodes counts : ℕ) (t : NumericType) (made : Made) → counted at nodes ≡ Passes counts → within at made ≡ Passes t → made ≡ pair_made pair usual x y → operator_typed sc at (task_of_pair pair) x y nodes ≡ Passes (t, counts)
+unfolding bind operator_typed pair_made
+pair_told pair.Sum sc at x y nodes counts t made c w e =
+    ap (λ g. bind g (λ n. bind (within at (add_made usual x y)) (λ s. Passes (s, n)))) c ∙ ap (λ g. bind (within at g) (λ s. Passes (s, counts))) (sym e) ∙ ap (λ g. bind g (λ s. Passes (s, counts))) w
+pair_told pair.Difference sc at x y nodes counts t made c w e =
+    ap (λ g. bind g (λ n. bind (within at (sub_made usual x y)) (λ s. Passes (s, n)))) c ∙ ap (λ g. bind (within at g) (λ s. Passes (s, counts))) (sym e) ∙ ap (λ g. bind g (λ s. Passes (s, counts))) w
+pair_told pair.Product sc at x y nodes counts t made c w e =
+    ap (λ g. bind g (λ n. bind (within at (product_made usual x y)) (λ s. Passes (s, n)))) c ∙ ap (λ g. bind (within at g) (λ s. Passes (s, counts))) (sym e) ∙ ap (λ g. bind g (λ s. Passes (s, counts))) w
 
--- a product that is counted and has a type
-pub product_told : (sc : Scope) (at : Place) (x y : NumericType) (nodes counts : ℕ) (t : NumericType) (m : Fimath) (made : Made) → counted at nodes ≡ Passes counts → within at made ≡ Passes t → made ≡ product_made m x y → m ≡ usual → operator_typed sc at Product x y nodes ≡ Passes (t, counts)
-unfolding bind operator_typed
-product_told sc at x y nodes counts t m made c w e u =
-    ap (λ g. bind g (λ n. bind (within at (product_made usual x y)) (λ s. Passes (s, n)))) c
-    ∙ ap (λ g. bind (within at (product_made g x y)) (λ s. Passes (s, counts))) (sym u)
-    ∙ ap (λ g. bind (within at g) (λ s. Passes (s, counts))) (sym e)
-    ∙ ap (λ g. bind g (λ s. Passes (s, counts))) w
-
--- a difference that is counted and has a type
-pub difference_told : (sc : Scope) (at : Place) (x y : NumericType) (nodes counts : ℕ) (t : NumericType) (m : Fimath) (made : Made) → counted at nodes ≡ Passes counts → within at made ≡ Passes t → made ≡ sub_made m x y → m ≡ usual → operator_typed sc at Difference x y nodes ≡ Passes (t, counts)
-unfolding bind operator_typed
-difference_told sc at x y nodes counts t m made c w e u =
-    ap (λ g. bind g (λ n. bind (within at (sub_made usual x y)) (λ s. Passes (s, n)))) c
-    ∙ ap (λ g. bind (within at (sub_made g x y)) (λ s. Passes (s, counts))) (sym u)
-    ∙ ap (λ g. bind (within at g) (λ s. Passes (s, counts))) (sym e)
-    ∙ ap (λ g. bind g (λ s. Passes (s, counts))) w
+-- one whose type passes a limit
+pub pair_limited : {R S : Type 0} (pair : Pair) (s : Stop Refusal) (num : R → NumericType) (view : S → Typed) (sc : Scope) (at : Place) (x y : NumericType) (nodes counts : ℕ) (made : Made) → counted at nodes ≡ Passes counts → Tells {R = R} (Err s) num (within at made) → made ≡ pair_made pair usual x y → Tells {R = S} (Err s) view (operator_typed sc at (task_of_pair pair) x y nodes)
+unfolding operator_typed pair_made
+pair_limited {R} {S} pair.Sum s num view sc at x y nodes counts made c w e =
+    next_tells (Err s) view (counted at nodes) counts (λ m. within at (add_made usual x y) >>= (λ t. Passes (t, m))) c
+    (part_tells s num view (within at (add_made usual x y)) (λ t. Passes (t, counts)) (subst (λ g. Tells {R = R} (Err s) num (within at g)) e w))
+pair_limited {R} {S} pair.Difference s num view sc at x y nodes counts made c w e =
+    next_tells (Err s) view (counted at nodes) counts (λ m. within at (sub_made usual x y) >>= (λ t. Passes (t, m))) c
+    (part_tells s num view (within at (sub_made usual x y)) (λ t. Passes (t, counts)) (subst (λ g. Tells {R = R} (Err s) num (within at g)) e w))
+pair_limited {R} {S} pair.Product s num view sc at x y nodes counts made c w e =
+    next_tells (Err s) view (counted at nodes) counts (λ m. within at (product_made usual x y) >>= (λ t. Passes (t, m))) c
+    (part_tells s num view (within at (product_made usual x y)) (λ t. Passes (t, counts)) (subst (λ g. Tells {R = R} (Err s) num (within at g)) e w))
 
 -- an operator of which no kind is built
 pub later : (op : BinOp) → (op ≡ bin.Add → ⊥) → (op ≡ bin.Sub → ⊥) → (op ≡ bin.Mul → ⊥) → (op ≡ bin.ElemMul → ⊥) → (op ≡ bin.Div → ⊥) → (op ≡ bin.ElemDiv → ⊥) → (op ≡ bin.LeftDiv → ⊥) → (op ≡ bin.ElemLeftDiv → ⊥) → task_of op ≡ Later

@@ -1,5 +1,5 @@
 -- The program of a function of scalar assignments.
-use Rattle.std.specs.Prelude.{◌≡◌, ℕ, suc, ◌^◌, nat_abs, Bool, true, false, not, ◌&&◌, if◌then◌else◌, nat_eq, ◌-ℤ◌, List, [], ◌∷◌, ◌++◌, length, map, Option, Some, None}
+use Rattle.std.specs.Prelude.{◌≡◌, ℕ, suc, true, false, List, [], ◌∷◌, ◌++◌, length, map, Option, Some, None}
 use Rattle.mat_ast.specs.declared.tree.Ident.{Ident}
 use Rattle.mat_ast.specs.declared.tree.UnOp.{UnOp}
 use Rattle.mat_ast.specs.declared.tree.UnOp.TheVariants as un
@@ -11,13 +11,11 @@ use Rattle.fi_eval.specs.Operators.{Work, Sum, Difference, Product, Unbuilt, wor
 use Rattle.fi_eval.specs.Meaning.{Context, is_abs}
 use Rattle.c_tree.specs.declared.tree.CArray.TheVariants as array
 use Rattle.c_tree.specs.declared.tree.CWord.{CWord}
-use Rattle.c_tree.specs.declared.tree.CWord.TheVariants.{I64}
-use Rattle.c_tree.specs.declared.tree.COp.TheVariants as op
-use Rattle.c_tree.specs.Tree.{Exp, Signed, Unsigned, Var, Element, Cast, Binary, Sta, Set, Store, Return, Fixed, Slot, Program}
+use Rattle.c_tree.specs.Tree.{Exp, Signed, Var, Element, Sta, Set, Store, Return, Fixed, Slot, Program}
 use Rattle.c_tree.specs.View.{block_of}
 use Rattle.lower_scalar.specs.Part.{Part, word_for}
 use Rattle.lower_scalar.specs.Part as lower
-use Rattle.lower_scalar.specs.Operators.{Subtracts, Negates, TakesSign}
+use Rattle.lower_scalar.specs.Operators.{Adds, Subtracts, Multiplies, Negates, TakesSign}
 use Rattle.scalar_walk.specs.Walk.{with_type}
 
 -- where a value stands: in an input array, or in a variable
@@ -47,37 +45,12 @@ abbrev pub read : Spot → Exp
 read (Input k) = Element (array.Input k) (Signed 0)
 read (Variable k) = Var k
 
--- an operand as the word of a result of this signedness
-abbrev pub widened : Bool → Operand → Exp
-widened signed o = if signed && not o.num.signed then Cast I64 (read o.spot) else read o.spot
-
-abbrev pub constant : Bool → ℕ → Exp
-constant true n = Signed n
-constant false n = Unsigned n
-
--- an operand at the fraction length of a sum
-abbrev pub aligned : NumericType → Operand → Exp
-aligned t o =
-    let k : ℕ = nat_abs (t.fraction -ℤ o.num.fraction) in
-    if nat_eq k 0 then widened t.signed o else Binary op.Mul (widened t.signed o) (constant t.signed (2 ^ k))
-
--- the value of a sum or a product of this result type
-unfoldable pub operation : Work → NumericType → Operand → Operand → Exp
-operation Sum t a b = Binary op.Add (aligned t a) (aligned t b)
-operation Difference t a b = read a.spot
-operation Product t a b = Binary op.Mul (widened t.signed a) (widened t.signed b)
-operation Unbuilt t a b = read a.spot
-
 -- a value of this type into the next variable
 abbrev pub next_low : NumericType → Exp → Emitted → Low
 next_low t e em = record {
   operand = record { spot = Variable (length em.words); num = t };
   emitted = record { sets = em.sets ++ (Set (length em.words) e ∷ []); words = em.words ++ (word_for t.signed ∷ []) };
 }
-
--- a sum or a product into the next variable
-abbrev pub set_next : Work → Operand → Operand → Emitted → NumericType → Low
-set_next work a b em t = next_low t (operation work t a b) em
 
 unfoldable pub and_then : {A B : Type 0} → Option A → (A → Option B) → Option B
 and_then None next = None
@@ -93,16 +66,18 @@ read_operand o = record { num = o.num; exp = read o.spot }
 abbrev pub with_part : NumericType → Part → Emitted → Low
 with_part t p em = next_low t p.value (record { sets = em.sets ++ p.before; words = em.words ++ p.words })
 
--- the statements of a difference of this type behind others, and where its value stands
-pub record IsDifference (t : NumericType) (a b : Operand) (em : Emitted) (low : Low) : Type 0 where
-  pub own : Part
-  pub subtracts : Subtracts usual t (read_operand a) (read_operand b) (length em.words) own
-  pub is : low ≡ with_part t own em
+-- the part computes an operation on two operands, in this type
+unfoldable pub Operates : Work → NumericType → Operand → Operand → ℕ → Part → Type 0
+Operates Sum t a b fresh p = Adds usual t (read_operand a) (read_operand b) fresh p
+Operates Difference t a b fresh p = Subtracts usual t (read_operand a) (read_operand b) fresh p
+Operates Product t a b fresh p = Multiplies usual t (read_operand a) (read_operand b) fresh p
+Operates Unbuilt t a b fresh p = ⊥
 
--- those of an operation with two operands
-unfoldable pub IsOperated : Work → NumericType → Operand → Operand → Emitted → Low → Type 0
-IsOperated Difference t a b em low = IsDifference t a b em low
-IsOperated work t a b em low = low ≡ set_next work a b em t
+-- the statements of an operation with two operands, in this type
+pub record IsOperated (work : Work) (t : NumericType) (a b : Operand) (em : Emitted) (low : Low) : Type 0 where
+  pub own : Part
+  pub operates : Operates work t a b (length em.words) own
+  pub is : low ≡ with_part t own em
 
 -- the part negates a value or takes its sign away
 unfoldable pub Turns : Turn → Operand → ℕ → Part → Type 0

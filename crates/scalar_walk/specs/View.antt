@@ -8,6 +8,8 @@ use Rattle.c_tree.specs.View.{stmt_view}
 use Rattle.scalar_walk.specs.declared.operand.Spot as code_spot
 use Rattle.scalar_walk.specs.declared.operand.Spot.TheVariants as spot
 use Rattle.scalar_walk.specs.declared.operand.Operand as code_operand
+use Rattle.scalar_walk.specs.declared.operations.Pair as code_pair
+use Rattle.scalar_walk.specs.declared.operations.Pair.TheVariants as pair
 use Rattle.scalar_walk.specs.declared.operations.Turn as code_turn
 use Rattle.scalar_walk.specs.declared.operations.Turn.TheVariants as turn
 use Rattle.scalar_walk.specs.declared.variables.Variables.{Variables}
@@ -20,12 +22,17 @@ use Rattle.std.specs.HashMap.{get_by}
 use Rattle.scalar_walk.specs.NameSets.{names_in}
 use Rattle.mat_token.specs.Lexeme.{lexemes_of}
 use Rattle.scalar_walk.specs.Shown.{text_at}
+use Rattle.scalar_walk.specs.Walk as walk
 use Rattle.scalar_walk.specs.Walk.{Scope, Types, Typed, Walked}
 use Rattle.scalar_walk.specs.Told.{Told, Passes, Refuses}
 use Rattle.scalar_walk.specs.Lowered.{Spot, Input, Variable, Operand, Emitted, Names, Low, Behind, IsOperated, read}
 use Rattle.lower_scalar.specs.Part.{reach}
 use Rattle.num_type.specs.Types.{NumericType}
+use Rattle.fi_math.specs.declared.fimath.Fimath.{Fimath}
+use Rattle.fi_math.specs.Made.{Made}
+use Rattle.fi_math.specs.Rules.{add_made, sub_made, product_made}
 use Rattle.fi_math.specs.Govern.{usual}
+use Rattle.fi_eval.specs.Operators as operators
 use Rattle.fi_eval.specs.Operators.{Work, result_type, Turn, Negate, Remove}
 
 abbrev pub spot_view : code_spot.Spot → Spot
@@ -102,3 +109,20 @@ IsUnder o e = reach (read (spot_view o.spot)) ≤ length e.words
 abbrev pub turn_view : code_turn.Turn → Turn
 turn_view turn.Negate = Negate
 turn_view turn.Remove = Remove
+
+-- what is asked of an operation on two operands
+abbrev pub work_of_pair : code_pair.Pair → Work
+work_of_pair pair.Sum = operators.Sum
+work_of_pair pair.Difference = operators.Difference
+work_of_pair pair.Product = operators.Product
+
+abbrev pub task_of_pair : code_pair.Pair → walk.Task
+task_of_pair pair.Sum = walk.Sum
+task_of_pair pair.Difference = walk.Difference
+task_of_pair pair.Product = walk.Product
+
+-- the type of its result, or the limit that this passes
+unfoldable pub pair_made : code_pair.Pair → Fimath → NumericType → NumericType → Made
+pair_made pair.Sum m a b = add_made m a b
+pair_made pair.Difference m a b = sub_made m a b
+pair_made pair.Product m a b = product_made m a b

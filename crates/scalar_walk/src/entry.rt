@@ -12,8 +12,7 @@ ghost use Rattle.scalar_walk.specs.Walk as walk;
 ghost use Rattle.scalar_walk.specs.View.{Tells, TellsTypes, scope_view, names_view, operand_view, emitted_view};
 
 use crate::emitted::Emitted;
-use crate::lower::read;
-use crate::operand::{Operand, Spot};
+use crate::operand::{Operand, Spot, read};
 use crate::scope::{Scope, arg_count};
 use crate::statements::{lower_block, lower_outputs};
 use crate::variables::Variables;

@@ -7,7 +7,6 @@ mod file;
 #[cfg(test)]
 mod file_tests;
 mod headers;
-mod lower;
 mod name_set;
 mod names;
 mod operand;

@@ -17,7 +17,7 @@ ghost use Rattle.scalar_walk.specs.View.{Tells, StopTells, IsStop, IsOperation, 
 use crate::emitted::Emitted;
 use crate::names::{is_division, is_supported, is_unsupported};
 use crate::operand::Operand;
-use crate::operations::{Turn, lower_difference, lower_product, lower_sum, lower_turn};
+use crate::operations::{Pair, Turn, lower_pair, lower_turn};
 use crate::results::count;
 use crate::scope::{Scope, arg_count, is_abs, is_function, is_variable, refused, text_at, unbuilt};
 use crate::variables::Variables;
@@ -137,10 +137,10 @@ fn lower_operator(
     ensures below { IfOk result (λ o. IsUnder o out.new) }
 {
     match op {
-        BinOp::Add => lower_sum(alloc, at, x, y, out),
-        BinOp::Sub => lower_difference(alloc, at, x, y, out),
-        BinOp::Mul => lower_product(alloc, at, x, y, out),
-        BinOp::ElemMul => lower_product(alloc, at, x, y, out),
+        BinOp::Add => lower_pair(alloc, at, Pair::Sum, x, y, out),
+        BinOp::Sub => lower_pair(alloc, at, Pair::Difference, x, y, out),
+        BinOp::Mul => lower_pair(alloc, at, Pair::Product, x, y, out),
+        BinOp::ElemMul => lower_pair(alloc, at, Pair::Product, x, y, out),
         BinOp::Div => Err(division(alloc, scope, at)),
         BinOp::ElemDiv => Err(division(alloc, scope, at)),
         BinOp::LeftDiv => Err(division(alloc, scope, at)),

@@ -19,23 +19,23 @@ returns-in_default-clause-told c =
 pub returns-in-Add-clause-told : goal.returns-in-Add-clause-told
 returns-in-Add-clause-told c =
     let sc = scope_view c.args.scope.now in
-    subst (λ task. Tells c.lower_sum.result (typed_view c.lower_sum.new.out.nodes) (operator_typed sc c.args.at task (type_of c.args.x.now.num) (type_of c.args.y.now.num) c.args.out.now.nodes))
-    (sym (ap task_of c.in-Add.is)) (c.lower_sum.ensures.told sc)
+    subst (λ task. Tells c.lower_pair.result (typed_view c.lower_pair.new.out.nodes) (operator_typed sc c.args.at task (type_of c.args.x.now.num) (type_of c.args.y.now.num) c.args.out.now.nodes))
+    (sym (ap task_of c.in-Add.is)) (c.lower_pair.ensures.told sc)
 
 pub returns-in-Mul-clause-told : goal.returns-in-Mul-clause-told
 returns-in-Mul-clause-told c =
     let sc = scope_view c.args.scope.now in
-    subst (λ task. Tells c.lower_product.result (typed_view c.lower_product.new.out.nodes) (operator_typed sc c.args.at task (type_of c.args.x.now.num) (type_of c.args.y.now.num) c.args.out.now.nodes))
-    (sym (ap task_of c.in-Mul.is)) (c.lower_product.ensures.told sc)
+    subst (λ task. Tells c.lower_pair-in-Mul.result (typed_view c.lower_pair-in-Mul.new.out.nodes) (operator_typed sc c.args.at task (type_of c.args.x.now.num) (type_of c.args.y.now.num) c.args.out.now.nodes))
+    (sym (ap task_of c.in-Mul.is)) (c.lower_pair-in-Mul.ensures.told sc)
 
 pub returns-in-Sub-clause-told : goal.returns-in-Sub-clause-told
 returns-in-Sub-clause-told c =
     let sc = scope_view c.args.scope.now in
-    subst (λ task. Tells c.lower_difference.result (typed_view c.lower_difference.new.out.nodes) (operator_typed sc c.args.at task (type_of c.args.x.now.num) (type_of c.args.y.now.num) c.args.out.now.nodes))
-    (sym (ap task_of c.in-Sub.is)) (c.lower_difference.ensures.told sc)
+    subst (λ task. Tells c.lower_pair-in-Sub.result (typed_view c.lower_pair-in-Sub.new.out.nodes) (operator_typed sc c.args.at task (type_of c.args.x.now.num) (type_of c.args.y.now.num) c.args.out.now.nodes))
+    (sym (ap task_of c.in-Sub.is)) (c.lower_pair-in-Sub.ensures.told sc)
 
 pub returns-in-ElemMul-clause-told : goal.returns-in-ElemMul-clause-told
 returns-in-ElemMul-clause-told c =
     let sc = scope_view c.args.scope.now in
-    subst (λ task. Tells c.lower_product-in-ElemMul.result (typed_view c.lower_product-in-ElemMul.new.out.nodes) (operator_typed sc c.args.at task (type_of c.args.x.now.num) (type_of c.args.y.now.num) c.args.out.now.nodes))
-    (sym (ap task_of c.in-ElemMul.is)) (c.lower_product-in-ElemMul.ensures.told sc)
+    subst (λ task. Tells c.lower_pair-in-ElemMul.result (typed_view c.lower_pair-in-ElemMul.new.out.nodes) (operator_typed sc c.args.at task (type_of c.args.x.now.num) (type_of c.args.y.now.num) c.args.out.now.nodes))
+    (sym (ap task_of c.in-ElemMul.is)) (c.lower_pair-in-ElemMul.ensures.told sc)
