@@ -13,9 +13,9 @@ use Rattle.mat_token.specs.Reads.{Gives}
 use Rattle.mat_token.proofs.Once.{outcome_once}
 use Rattle.mat_parse.specs.Parsed.{Tree, Refused, IsParse}
 use Rattle.mat_parse.proofs.Parses.{parse_once}
-use Rattle.scalar_walk.specs.Told as told
-use Rattle.scalar_walk.specs.Told.{Told}
-use Rattle.scalar_walk.specs.Shown.{text_at}
+use Rattle.walk_scope.specs.Told as told
+use Rattle.walk_scope.specs.Told.{Told}
+use Rattle.walk_scope.specs.Shown.{text_at}
 use Rattle.scalar_walk.specs.Walk.{walked}
 use Rattle.fic_io.specs.Causes as io
 use Rattle.c_tree.specs.Tree.{Program}

@@ -23,9 +23,9 @@ use Rattle.c_tree.specs.Tree.{Fixed, Program}
 use Rattle.c_tree.specs.CText.{IsText}
 use Rattle.c_tree.specs.Layout.{layout}
 use Rattle.c_tree.specs.WellFormed.{IsWellFormed}
-use Rattle.scalar_walk.specs.Told as told
-use Rattle.scalar_walk.specs.Told.{Told}
-use Rattle.scalar_walk.specs.Shown.{text_at}
+use Rattle.walk_scope.specs.Told as told
+use Rattle.walk_scope.specs.Told.{Told}
+use Rattle.walk_scope.specs.Shown.{text_at}
 use Rattle.scalar_walk.specs.Walk.{walked, entry_walked}
 use Rattle.scalar_walk.specs.Lowered.{real_slots}
 use Rattle.scalar_walk.specs.Correspondence.{IsProgramOf}

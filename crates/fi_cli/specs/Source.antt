@@ -17,8 +17,8 @@ use Rattle.c_tree.specs.Tree.{Fixed, Slot, Program}
 use Rattle.c_tree.specs.CText.{IsText}
 use Rattle.c_tree.specs.Layout.{layout}
 use Rattle.c_tree.specs.WellFormed.{IsWellFormed}
-use Rattle.scalar_walk.specs.Told.{Told, Passes, Refuses}
-use Rattle.scalar_walk.specs.Shown.{text_at}
+use Rattle.walk_scope.specs.Told.{Told, Passes, Refuses}
+use Rattle.walk_scope.specs.Shown.{text_at}
 use Rattle.scalar_walk.specs.Walk.{walked}
 use Rattle.scalar_walk.specs.Correspondence.{IsProgramOf}
 

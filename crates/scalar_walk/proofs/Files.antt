@@ -13,15 +13,18 @@ use Rattle.mat_ast.specs.Tree.{Fun}
 use Rattle.fi_eval.specs.Meaning.{Context, context_of, function_named, names_of, start}
 use Rattle.c_tree.specs.Tree.{Program}
 use Rattle.c_tree.specs.declared.tree.CTree.{CTree}
-use Rattle.scalar_walk.specs.Names.{is_listed}
-use Rattle.scalar_walk.specs.Told.{Told, Passes, Refuses, bind, choose, when◌then◌else◌}
+use Rattle.walk_scope.specs.Names.{is_listed}
+use Rattle.walk_scope.specs.Told.{Told, Passes, Refuses, bind, choose, when◌then◌else◌}
 use Rattle.scalar_walk.specs.Lowered.{real_slots}
 use Rattle.scalar_walk.specs.Correspondence.{IsProgramOf}
 use Rattle.scalar_walk.specs.Right.{IsHeader, IsRight, HasNames}
-use Rattle.scalar_walk.specs.Walk.{Scope, names_checked, headers_checked, function_walked, entry_walked, walked, scope_of}
-use Rattle.scalar_walk.specs.View.{Tells, TellsTypes, StopTells, IsStop}
-use Rattle.scalar_walk.proofs.Entries.{same_test}
-use Rattle.scalar_walk.proofs.Tell.{is_told, passed}
+use Rattle.walk_scope.specs.Scope.{Scope, scope_of}
+use Rattle.walk_scope.specs.Headers.{names_checked, headers_checked}
+use Rattle.scalar_walk.specs.Walk.{function_walked, entry_walked, walked}
+use Rattle.walk_scope.specs.View.{Tells, StopTells, IsStop}
+use Rattle.scalar_walk.specs.View.{TellsTypes}
+use Rattle.walk_scope.proofs.Entries.{same_test}
+use Rattle.walk_scope.proofs.Tell.{is_told, passed}
 use Rattle.scalar_walk.proofs.Walks.{part_stops, tells_stop}
 use Rattle.scalar_walk.proofs.Functions.{stop_types}
 

@@ -12,11 +12,13 @@ use Rattle.num_type.specs.Types.{NumericType}
 use Rattle.mat_ast.specs.declared.tree.Ident.{Ident}
 use Rattle.mat_ast.specs.Tree.{Fun}
 use Rattle.c_tree.specs.declared.tree.CTree.{CTree}
-use Rattle.scalar_walk.specs.Told.{Told, Passes, Refuses, bind, choose}
+use Rattle.walk_scope.specs.Told.{Told, Passes, Refuses, bind, choose}
 use Rattle.scalar_walk.specs.Lowered.{Operand, Input, Names, inputs_from, no_names}
-use Rattle.scalar_walk.specs.Walk.{Scope, Walked, with_type, inputs_typed, no_types, block_walked, outputs_typed, function_walked, counts_text}
-use Rattle.scalar_walk.specs.View.{Tells, StopTells, TellsTypes}
-use Rattle.scalar_walk.proofs.Tell.{passed}
+use Rattle.walk_scope.specs.Scope.{Scope, counts_text}
+use Rattle.scalar_walk.specs.Walk.{Walked, with_type, inputs_typed, no_types, block_walked, outputs_typed, function_walked}
+use Rattle.walk_scope.specs.View.{Tells, StopTells}
+use Rattle.scalar_walk.specs.View.{TellsTypes}
+use Rattle.walk_scope.proofs.Tell.{passed}
 use Rattle.scalar_walk.proofs.Walks.{part_stops, tells_stop}
 use Rattle.scalar_walk.proofs.Outputs.{types_in, types_set}
 

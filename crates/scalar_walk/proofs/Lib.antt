@@ -9,7 +9,6 @@ pub mod Starts
 pub mod Forms
 pub mod Programs
 pub mod Whole
-pub mod Entries
 pub mod Tables
 pub mod Lows
 pub mod Views
@@ -18,5 +17,4 @@ pub mod Tell
 pub mod Walks
 pub mod Outputs
 pub mod Functions
-pub mod Checks
 pub mod Files

@@ -8,7 +8,7 @@ use Rattle.num_type.specs.View.{type_of}
 use Rattle.num_type.specs.Types.{NumericType}
 use Rattle.scalar_walk.specs.declared.operand.Operand as code_operand
 use Rattle.scalar_walk.specs.Lowered.{Operand, Names}
-use Rattle.scalar_walk.specs.Told.{Told, Passes, Refuses, bind}
+use Rattle.walk_scope.specs.Told.{Told, Passes, Refuses, bind}
 use Rattle.scalar_walk.specs.Walk.{Types, with_type, outputs_typed, known}
 use Rattle.scalar_walk.specs.View.{operand_view}
 

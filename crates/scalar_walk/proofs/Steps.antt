@@ -1,5 +1,5 @@
 -- Steps of loops over inputs, slots and outputs.
-use Rattle.std.proofs.Common.{◌≡◌, ℕ, zero, suc, ◌+◌, ◌<◌, ◌≤◌, List, [], ◌∷◌, ◌++◌, length, map, drop, get_or, ◌⊎◌, inl, inr, Option, Some, None, refl, sym, ap, ◌∙◌, arith, append_assoc, append-nil}
+use Rattle.std.proofs.Common.{◌≡◌, ℕ, zero, suc, ◌+◌, ◌≤◌, List, [], ◌∷◌, ◌++◌, length, map, drop, ◌⊎◌, inl, inr, Option, Some, None, refl, sym, ap, ◌∙◌, arith, append_assoc, append-nil}
 use Rattle.std.specs.Prelude.{option_map, min}
 use Rattle.std.proofs.Math.Nat.{min-eq_left, min-eq_right}
 use Rattle.std.proofs.lemmas.List.{map-append}
@@ -11,23 +11,11 @@ use Rattle.c_tree.specs.declared.tree.CStmt.{CStmt}
 use Rattle.c_tree.specs.Tree.{Store, Signed}
 use Rattle.c_tree.specs.declared.tree.CArray.TheVariants as array
 use Rattle.c_tree.specs.View.{slot_view, stmt_view}
+use Rattle.walk_scope.proofs.Lefts.{left_none}
 use Rattle.scalar_walk.specs.declared.operand.Operand as code
 use Rattle.scalar_walk.specs.Walk.{with_type}
 use Rattle.scalar_walk.specs.Lowered.{Input, Operand, Names, and_then, inputs_from, outputs_lowered, real_slot, real_slots, stores_from, read}
 use Rattle.scalar_walk.specs.View.{operand_view, spot_view}
-
--- what is left begins with the element at the index
-pub left_at : {A : Type 0} (xs : List A) (k : ℕ) (x d : A) → k < length xs → x ≡ get_or xs k d → drop k xs ≡ x ∷ drop (k + 1) xs
-left_at [] k x d h e = absurd (omega (arith, h))
-left_at (y ∷ ys) zero x d h e = ap (λ z. z ∷ ys) (sym e)
-left_at (y ∷ ys) (suc k) x d h e = let shift : suc k + 1 ≡ suc (k + 1) = omega arith in left_at ys k x d (omega (arith, h)) e ∙ ap (λ n. x ∷ drop n (y ∷ ys)) (sym shift)
-
--- nothing is left at the end
-pub left_none : {A : Type 0} (xs : List A) (k : ℕ) → length xs ≤ k → drop k xs ≡ []
-left_none [] zero h = refl
-left_none [] (suc k) h = refl
-left_none (y ∷ ys) zero h = absurd (omega (arith, h))
-left_none (y ∷ ys) (suc k) h = left_none ys k (omega (arith, h))
 
 pub inputs_step : (k : ℕ) (is : List Ident) (ts : List NumType) (names later : Names) (i : Ident) (t : NumType) (bytes : List ℕ) → drop k is ≡ i ∷ drop (k + 1) is → drop k ts ≡ t ∷ drop (k + 1) ts → bytes ≡ i.text → later ≡ with_type names bytes (record { spot = Input k; num = type_of t }) → inputs_from k (drop k is) (map type_of (drop k ts)) names ≡ inputs_from (k + 1) (drop (k + 1) is) (map type_of (drop (k + 1) ts)) later
 inputs_step k is ts names later i t bytes p q b l =

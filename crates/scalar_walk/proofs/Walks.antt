@@ -14,10 +14,11 @@ use Rattle.mat_ast.specs.declared.tree.Arg.{Arg}
 use Rattle.mat_ast.specs.declared.tree.Arg.TheVariants as arg
 use Rattle.mat_ast.specs.View.{expr_view, arg_view, args_view, args_of}
 use Rattle.mat_ast.specs.Tree.{Exp, Binary, Apply}
-use Rattle.scalar_walk.specs.Told.{Told, Passes, Refuses, ◌>>=◌, bind}
-use Rattle.scalar_walk.specs.Walk.{Scope, Types, Typed, typed, args_typed, operator_typed, task_of, unbuilt, inside, apply_typed, args_count}
-use Rattle.scalar_walk.specs.View.{Tells, StopTells}
-use Rattle.scalar_walk.proofs.Tell.{err_tells, part_tells, next_tells, passed}
+use Rattle.walk_scope.specs.Told.{Told, Passes, Refuses, ◌>>=◌, bind}
+use Rattle.walk_scope.specs.Scope.{Scope, unbuilt}
+use Rattle.scalar_walk.specs.Walk.{Types, Typed, typed, args_typed, operator_typed, task_of, inside, apply_typed, args_count}
+use Rattle.walk_scope.specs.View.{Tells, StopTells}
+use Rattle.walk_scope.proofs.Tell.{err_tells, part_tells, next_tells, passed}
 use Rattle.scalar_walk.proofs.Views.{range_view, range_by_view, item_view}
 
 -- a part refused in a bind refuses the whole

@@ -29,7 +29,7 @@ use Rattle.scalar_walk.specs.Correspondence as match
 use Rattle.scalar_walk.specs.Correspondence.{AreInputs, AreFilled, Corresponds, Behaves, IsProgramOf, form_of, value_form}
 use Rattle.scalar_walk.proofs.Runs.{word_type, before, RunsTo, some_is}
 use Rattle.scalar_walk.proofs.Expressions.{Sees, fi_of}
-use Rattle.scalar_walk.proofs.Entries.{same_text}
+use Rattle.walk_scope.proofs.Entries.{same_text}
 use Rattle.scalar_walk.proofs.Blocks.{Covers, block_runs, any_front, any_behind}
 use Rattle.scalar_walk.proofs.Starts.{inputs_see, AllStand, values_of, outputs_give, nums_of, items_in, stores_run}
 use Rattle.scalar_walk.proofs.Forms.{ArePlain, plain_append, NamesGood}

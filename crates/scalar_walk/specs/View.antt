@@ -14,17 +14,11 @@ use Rattle.scalar_walk.specs.declared.operations.Turn as code_turn
 use Rattle.scalar_walk.specs.declared.operations.Turn.TheVariants as turn
 use Rattle.scalar_walk.specs.declared.variables.Variables.{Variables}
 use Rattle.scalar_walk.specs.declared.emitted.Emitted as code_emitted
-use Rattle.scalar_walk.specs.declared.scope.Scope as code_scope
-use Rattle.fic_base.specs.declared.code.Code.{Code}
-use Rattle.fic_base.specs.declared.place.Place.{Place}
 use Rattle.std.specs.Borrow.{Bor}
 use Rattle.std.specs.HashMap.{get_by}
-use Rattle.scalar_walk.specs.NameSets.{names_in}
-use Rattle.mat_token.specs.Lexeme.{lexemes_of}
-use Rattle.scalar_walk.specs.Shown.{text_at}
 use Rattle.scalar_walk.specs.Walk as walk
-use Rattle.scalar_walk.specs.Walk.{Scope, Types, Typed, Walked}
-use Rattle.scalar_walk.specs.Told.{Told, Passes, Refuses}
+use Rattle.scalar_walk.specs.Walk.{Types, Typed, Walked}
+use Rattle.walk_scope.specs.Told.{Told, Passes, Refuses}
 use Rattle.scalar_walk.specs.Lowered.{Spot, Input, Variable, Operand, Emitted, Names, Low, Behind, IsOperated, read}
 use Rattle.lower_scalar.specs.Part.{reach}
 use Rattle.num_type.specs.Types.{NumericType}
@@ -49,30 +43,11 @@ names_view v name = option_map operand_view (get_by (λ k. bytes_eq name k.items
 abbrev pub emitted_view : code_emitted.Emitted → Emitted
 emitted_view e = record { sets = map stmt_view e.sets; words = e.words }
 
--- an answer of the code says what is told, unless memory is wanting
-abbrev pub Tells : {R A : Type 0} → Result R (Stop Refusal) → (R → A) → Told A → Type 0
-Tells (Ok x) view told = told ≡ Passes (view x)
-Tells (Err stop.Memory) view told = Unit {0}
-Tells (Err (stop.Refused r)) view told = told ≡ Refuses r.code r.place r.shown
-
 abbrev pub types_view : Variables → Types
 types_view v name = option_map (λ o. o.num) (names_view v name)
 
-abbrev pub scope_view : code_scope.Scope → Scope
-scope_view s = record { context = record { variables = names_in s.variables.now; functions = names_in s.functions.now }; shown = text_at (lexemes_of s.bytes.now s.tokens.now) }
-
 abbrev pub around_view : Option (Bor (List ℕ)) → Option (List ℕ)
 around_view = option_map (λ b. b.now)
-
--- a stop of this refusal, unless memory is wanting
-abbrev pub IsStop : Stop Refusal → Code → Place → List ℕ → Type 0
-IsStop stop.Memory code at shown = Unit {0}
-IsStop (stop.Refused r) code at shown = (r.code ≡ code) × (r.place ≡ at) × (r.shown ≡ shown)
-
--- a stop says what is told, unless memory is wanting
-abbrev pub StopTells : {A : Type 0} → Stop Refusal → Told A → Type 0
-StopTells stop.Memory told = Unit {0}
-StopTells (stop.Refused r) told = told ≡ Refuses r.code r.place r.shown
 
 -- an answer of the code where types are told: there are some, or the refusal is told, unless memory is wanting
 abbrev pub TellsTypes : {R : Type 0} → Result R (Stop Refusal) → Told (List NumericType) → Type 0

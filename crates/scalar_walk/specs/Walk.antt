@@ -1,5 +1,5 @@
 -- The walk over a source: the first node with a missing condition refuses it.
-use Rattle.std.specs.Prelude.{ℕ, suc, ◌+◌, Bool, ◌&&◌, ◌||◌, nat_lt, nat_eq, if◌then◌else◌, List, [], ◌∷◌, ◌++◌, length, codes, decimal, Option, Some, None, bytes_eq}
+use Rattle.std.specs.Prelude.{ℕ, suc, ◌+◌, Bool, ◌&&◌, nat_lt, nat_eq, if◌then◌else◌, List, [], ◌∷◌, ◌++◌, length, codes, decimal, Option, Some, None, bytes_eq}
 use Rattle.std.specs.Fmt.{signed_decimal}
 use Rattle.std.specs.Ordering.{int_eq}
 use mathlib.Core.Bool.{beq}
@@ -16,19 +16,14 @@ use Rattle.shape_rules.specs.TypeText.{type_text, shape_text}
 use Rattle.fi_math.specs.Made.{Made, Is, Wide, Out}
 use Rattle.fi_math.specs.Rules.{product_made, add_made, sub_made}
 use Rattle.fi_math.specs.Govern.{usual}
-use Rattle.fi_eval.specs.Meaning.{Context, is_variable, is_abs, context_of, function_named, first_place, place_of, start}
-use Rattle.scalar_walk.specs.Told.{Told, Passes, Refuses, ◌>>=◌, when◌then◌else◌}
-use Rattle.scalar_walk.specs.Names.{divisions, supported, unsupported, is_listed}
+use Rattle.fi_eval.specs.Meaning.{is_variable, is_abs, function_named, first_place, place_of, start}
+use Rattle.walk_scope.specs.Scope.{Scope, unbuilt, counts_text, scope_of, call_refused}
+use Rattle.walk_scope.specs.Headers.{headers_checked}
+use Rattle.walk_scope.specs.Told.{Told, Passes, Refuses, ◌>>=◌, when◌then◌else◌}
 
 -- the greatest number of nodes walked
 abbrev pub node_limit : ℕ
 node_limit = 200000
-
--- what stays the same over a function
-pub record Scope : Type 0 where
-  pub context : Context
-  -- the text of the token at a place
-  pub shown : Place → List ℕ
 
 -- the types that variables have so far
 abbrev pub Types : Type 0
@@ -37,33 +32,9 @@ Types = List ℕ → Option NumericType
 abbrev pub with_type : {A : Type 0} → (List ℕ → Option A) → List ℕ → A → List ℕ → Option A
 with_type types name t other = if bytes_eq name other then Some t else types other
 
--- a kind that isn't supported yet is refused at its place
-abbrev pub unbuilt : {A : Type 0} → Scope → Place → Told A
-unbuilt sc at = Refuses code.Unsupported at (sc.shown at)
-
 -- a node, after so many
 abbrev pub counted : Place → ℕ → Told ℕ
 counted at nodes = when nat_lt nodes node_limit then Passes (nodes + 1) else Refuses code.Limit at (decimal node_limit)
-
--- a name that is no variable
-abbrev pub other_name : {A : Type 0} → Scope → Place → List ℕ → Told A
-other_name sc at name =
-    when is_listed name sc.context.functions || (is_listed name supported || is_listed name unsupported)
-    then Refuses code.Unsupported at name
-    else (when is_listed name divisions then Refuses code.Division at name else Refuses code.UnknownName at name)
-
-abbrev pub counts_text : ℕ → ℕ → List ℕ
-counts_text have want = decimal have ++ codes " for " ++ decimal want
-
-abbrev pub scope_of : (Place → List ℕ) → List Fun → Fun → Scope
-scope_of shown fs f = record { context = context_of fs f; shown = shown }
-
--- a call that isn't that of a variable, with so many arguments, where there is no built-in for it
-abbrev pub call_refused : {A : Type 0} → Scope → Place → List ℕ → ℕ → Told A
-call_refused sc at name count =
-    when is_abs sc.context name
-    then (when nat_eq count 1 then Refuses code.BadArgument at name else Refuses code.ArgCount at (counts_text count 1))
-    else other_name sc at name
 
 -- the type of a variable
 unfoldable pub known : Place → List ℕ → Option NumericType → Told NumericType
@@ -230,25 +201,7 @@ abbrev pub block_walked : Block → Scope → Walked → Told Walked
 block_walked Done sc w = Passes w
 block_walked (Next s more) sc w = sta_walked s sc w >>= block_walked more sc
 
--- ---- headers and the entry
-
--- names of one list differ, and none is reserved for lists of any length
-abbrev pub names_checked : List Ident → List (List ℕ) → Told (List (List ℕ))
-names_checked [] seen = Passes seen
-names_checked (name ∷ names) seen =
-    when is_listed name.text (codes "varargin" ∷ codes "varargout" ∷ [])
-    then Refuses code.Unsupported name.place name.text
-    else (when is_listed name.text seen then Refuses code.BadArgument name.place name.text
-    else names_checked names (name.text ∷ seen))
-
--- each header: the outputs, the function's name, the inputs
-abbrev pub headers_checked : List Fun → List (List ℕ) → Told (List (List ℕ))
-headers_checked [] seen = Passes seen
-headers_checked (f ∷ fs) seen = do
-  outs ← names_checked f.outputs []
-  here ← names_checked (f.name ∷ []) seen
-  ins ← names_checked f.inputs []
-  headers_checked fs here
+-- ---- the entry
 
 -- the types of the inputs, the last one of a name first
 abbrev pub inputs_typed : List Ident → List NumericType → Types → Types

@@ -1,5 +1,6 @@
 //! The program of an entry.
 
+ghost use Rattle.walk_scope.specs.Scope as scoped;
 ghost use Rattle.std.specs.Prelude.{◌≡◌, ◌<◌, ◌^◌, ◌++◌, ◌∷◌, [], length, nat_eq, IfOk, OnOk, Some, map};
 ghost use Rattle.fic_base.specs.declared.code.Code.TheVariants as code;
 ghost use Rattle.num_type.specs.View.{type_of};
@@ -7,13 +8,13 @@ ghost use Rattle.mat_ast.specs.View.{func_view};
 ghost use Rattle.c_tree.specs.View.{program_view, slot_view, stmt_view};
 ghost use Rattle.scalar_walk.specs.Lowered.{IsFunctionLowered, inputs_from, no_names, real_slots, stores_from, program_of};
 ghost use Rattle.scalar_walk.specs.Right.{IsRight};
-ghost use Rattle.scalar_walk.specs.Told.{Passes, Refuses, choose};
+ghost use Rattle.walk_scope.specs.Told.{Passes, Refuses, choose};
 ghost use Rattle.scalar_walk.specs.Walk as walk;
-ghost use Rattle.scalar_walk.specs.View.{Tells, TellsTypes, scope_view, names_view, operand_view, emitted_view};
+ghost use Rattle.walk_scope.specs.View.{Tells, scope_view};
+ghost use Rattle.scalar_walk.specs.View.{TellsTypes, names_view, operand_view, emitted_view};
 
 use crate::emitted::Emitted;
 use crate::operand::{Operand, Spot, read};
-use crate::scope::{Scope, arg_count};
 use crate::statements::{lower_block, lower_outputs};
 use crate::variables::Variables;
 use c_tree::{CArray, CKind, CSlot, CStmt, CTree, Interface};
@@ -23,6 +24,7 @@ use num_type::{Memory, NumType, Stop};
 use shape_rules::Shape;
 use sqlite_items::Items;
 use std::alloc::Global;
+use walk_scope::{Scope, arg_count};
 
 /// The program of a function at these types of its inputs. Well formed, at most 500 deep, and for every input, every contents of the
 /// outputs and every bound on turns never undefined and what evaluation of the function gives. Refused exactly as its definition tells:
@@ -50,9 +52,9 @@ pub fn lower_function(
 }
 
 // There are as many types as inputs.
-#[tactic(auto, using(crate::proofs::Tell::stop_tells), unfolding(crate::specs::Told::choose))]
+#[tactic(auto, using(walk_scope::proofs::Tell::stop_tells), unfolding(walk_scope::specs::Told::choose))]
 fn check_count(alloc: Global, f: &Func, types: &[NumType]) -> Result<(), Stop<Refusal>>
-    ensures told { Tells result (λ u. length types.now) (choose (nat_eq (length types.now) (length f.now.inputs)) (Passes (length types.now)) (Refuses code.ArgCount f.now.name.place (walk.counts_text (length types.now) (length f.now.inputs)))) }
+    ensures told { Tells result (λ u. length types.now) (choose (nat_eq (length types.now) (length f.now.inputs)) (Passes (length types.now)) (Refuses code.ArgCount f.now.name.place (scoped.counts_text (length types.now) (length f.now.inputs)))) }
     ensures counts { IfOk result (λ u. length types.now ≡ length f.now.inputs) }
 {
     let want = f.inputs.as_slice().len();

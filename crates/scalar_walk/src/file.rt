@@ -7,7 +7,7 @@ ghost use Rattle.mat_ast.specs.View.{func_view, funcs_view};
 ghost use Rattle.mat_ast.specs.Tree.{Fun};
 ghost use Rattle.fi_eval.specs.Meaning.{function_named};
 ghost use Rattle.c_tree.specs.View.{program_view};
-ghost use Rattle.scalar_walk.specs.Shown.{text_at};
+ghost use Rattle.walk_scope.specs.Shown.{text_at};
 ghost use Rattle.scalar_walk.specs.Walk.{walked};
 ghost use Rattle.scalar_walk.specs.Lowered.{real_slots};
 ghost use Rattle.scalar_walk.specs.Right.{HasNames};
@@ -15,15 +15,13 @@ ghost use Rattle.scalar_walk.specs.Correspondence.{IsProgramOf};
 ghost use Rattle.scalar_walk.specs.View.{TellsTypes};
 
 use crate::entry::lower_function;
-use crate::headers::check_headers;
-use crate::scope::{Scope, refused};
-use crate::targets::variables_of;
 use c_tree::CTree;
 use fic_base::{Code, Place, Refusal};
 use mat_ast::Func;
 use mat_token::Token;
 use num_type::{NumType, Stop};
 use std::alloc::Global;
+use walk_scope::{Scope, check_headers, refused, variables_of};
 
 /// The program of a file, from a function at these types of its inputs. Refused exactly as the definition of the walk tells: where the
 /// file has no such function, for a name of a header, for another number of types than of inputs, or at the first node with a missing

@@ -6,17 +6,12 @@ mod entry;
 mod file;
 #[cfg(test)]
 mod file_tests;
-mod headers;
-mod name_set;
-mod names;
 mod operand;
 #[cfg(test)]
 mod operation_tests;
 mod operations;
 mod results;
-mod scope;
 mod statements;
-mod targets;
 #[cfg(test)]
 mod tests;
 mod variables;
@@ -24,4 +19,3 @@ mod walk;
 
 pub use entry::lower_function;
 pub use file::lower_file;
-pub use scope::Scope;

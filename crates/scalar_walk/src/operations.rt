@@ -1,5 +1,6 @@
 //! The lowering of operations on operands.
 
+ghost use Rattle.walk_scope.specs.Scope as scoped;
 ghost use Rattle.std.specs.Prelude.{◌≡◌, ◌≤◌, ◌^◌, length, IfOk, OnOk};
 ghost use Rattle.num_type.specs.View.{type_of};
 ghost use Rattle.fi_math.specs.Govern.{usual};
@@ -8,7 +9,8 @@ ghost use Rattle.fi_math.specs.View.{made_of};
 ghost use Rattle.lower_scalar.specs.Part.{part_view};
 ghost use Rattle.scalar_walk.specs.Lowered.{IsTurned, Operates, Turns};
 ghost use Rattle.scalar_walk.specs.Walk as walk;
-ghost use Rattle.scalar_walk.specs.View.{Tells, IsOperation, IsUnder, pair_made, task_of_pair, work_of_pair, turn_view, typed_view, operand_view, emitted_view, low_view};
+ghost use Rattle.walk_scope.specs.View.{Tells};
+ghost use Rattle.scalar_walk.specs.View.{IsOperation, IsUnder, pair_made, task_of_pair, work_of_pair, turn_view, typed_view, operand_view, emitted_view, low_view};
 
 use crate::emitted::Emitted;
 use crate::operand::{Operand, read};
@@ -33,7 +35,7 @@ pub enum Pair {
 
 /// An operation on two operands: the words and statements of its part, and its value in the next variable behind them. Refused exactly
 /// as the definition tells; want of memory is the free answer.
-#[tactic(auto, using(crate::proofs::Tell::part_tells), unfolding(crate::specs::Walk::operator_typed, crate::specs::Told::bind))]
+#[tactic(auto, using(walk_scope::proofs::Tell::part_tells), unfolding(crate::specs::Walk::operator_typed, walk_scope::specs::Told::bind))]
 pub fn lower_pair(
     alloc: Global,
     at: Place,
@@ -44,7 +46,7 @@ pub fn lower_pair(
 ) -> Result<Operand, Stop<Refusal>>
     requires left { IsUnder x.now out.old }
     requires right { IsUnder y.now out.old }
-    ensures told { (sc : walk.Scope) → Tells result (typed_view out.new.nodes) (walk.operator_typed sc at (task_of_pair pair) (type_of x.now.num) (type_of y.now.num) out.old.nodes) }
+    ensures told { (sc : scoped.Scope) → Tells result (typed_view out.new.nodes) (walk.operator_typed sc at (task_of_pair pair) (type_of x.now.num) (type_of y.now.num) out.old.nodes) }
     ensures below { IfOk result (λ o. IsUnder o out.new) }
     ensures grows { OnOk result (length out.old.words ≤ length out.new.words) }
     ensures low { IfOk result (λ o. IsOperation (work_of_pair pair) (operand_view x.now) (operand_view y.now) (emitted_view out.old) (low_view o out.new)) }
@@ -116,7 +118,7 @@ pub enum Turn {
 }
 
 /// A value with its sign negated or taken away, in the same way.
-#[tactic(auto, using(crate::proofs::Tell::part_tells), unfolding(crate::specs::Told::bind))]
+#[tactic(auto, using(walk_scope::proofs::Tell::part_tells), unfolding(walk_scope::specs::Told::bind))]
 pub fn lower_turn(
     alloc: Global,
     at: Place,

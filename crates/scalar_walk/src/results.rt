@@ -6,21 +6,22 @@ ghost use Rattle.fi_math.specs.View.{made_of};
 ghost use Rattle.lower_scalar.specs.Part.{part_view};
 ghost use Rattle.scalar_walk.specs.Lowered.{next_low, with_part};
 ghost use Rattle.scalar_walk.specs.Walk as walk;
-ghost use Rattle.scalar_walk.specs.View.{Tells, IsUnder, emitted_view, low_view};
+ghost use Rattle.walk_scope.specs.View.{Tells};
+ghost use Rattle.scalar_walk.specs.View.{IsUnder, emitted_view, low_view};
 ghost use Rattle.c_tree.specs.View.{expr_view as c_view};
 
 use crate::emitted::Emitted;
 use crate::operand::{Operand, Spot};
-use crate::scope::{fraction_out, too_many_nodes, too_wide};
 use c_tree::{CExpr, CPart};
 use fi_math::NoType;
 use fic_base::{Place, Refusal};
 use lower_scalar::word_for;
 use num_type::{Memory, NumType, Stop};
 use std::alloc::Global;
+use walk_scope::{fraction_out, too_many_nodes, too_wide};
 
 /// Counts a node. Refused exactly at the limit of nodes.
-#[tactic(auto, using(crate::proofs::Tell::stop_tells), unfolding(crate::specs::Told::choose))]
+#[tactic(auto, using(walk_scope::proofs::Tell::stop_tells), unfolding(walk_scope::specs::Told::choose))]
 pub fn count(alloc: Global, at: Place, out: &mut Emitted) -> Result<(), Stop<Refusal>>
     ensures told { Tells result (λ u. out.new.nodes) (walk.counted at out.old.nodes) }
     ensures nodes { OnOk result (out.new.nodes ≡ out.old.nodes + 1) }
@@ -35,7 +36,7 @@ pub fn count(alloc: Global, at: Place, out: &mut Emitted) -> Result<(), Stop<Ref
 }
 
 /// The type of a result, or the limit that it passes. Want of memory is the free answer.
-#[tactic(auto, using(crate::proofs::Tell::is_told, crate::proofs::Tell::err_tells, crate::proofs::Tell::stop_tells, crate::proofs::Tell::part_tells), unfolding(crate::specs::Walk::within))]
+#[tactic(auto, using(walk_scope::proofs::Tell::is_told, walk_scope::proofs::Tell::err_tells, walk_scope::proofs::Tell::stop_tells, walk_scope::proofs::Tell::part_tells), unfolding(crate::specs::Walk::within))]
 pub fn limited(
     alloc: Global,
     at: Place,

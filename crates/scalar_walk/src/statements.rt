@@ -8,11 +8,11 @@ ghost use Rattle.mat_ast.specs.Tree.{Assign};
 ghost use Rattle.scalar_walk.specs.Lowered.{IsStaLowered, IsBlockLowered, outputs_lowered};
 ghost use Rattle.fi_eval.specs.Meaning.{first_place, place_of};
 ghost use Rattle.scalar_walk.specs.Walk as walk;
-ghost use Rattle.scalar_walk.specs.View.{Tells, IsStop, AreBelow, names_view, types_view, scope_view, walked_view, operand_view, emitted_view, behind_view};
+ghost use Rattle.walk_scope.specs.View.{Tells, IsStop, scope_view};
+ghost use Rattle.scalar_walk.specs.View.{AreBelow, names_view, types_view, walked_view, operand_view, emitted_view, behind_view};
 
 use crate::emitted::Emitted;
 use crate::operand::Operand;
-use crate::scope::{Scope, refused, unbuilt};
 use crate::variables::Variables;
 use crate::walk::lower_expr;
 use fic_base::{Code, Place, Refusal};
@@ -20,6 +20,7 @@ use mat_ast::{Expr, Ident, Stmt};
 use num_type::{Memory, NumType, Stop};
 use shape_rules::{Declared, Shape, write_type};
 use std::alloc::Global;
+use walk_scope::{Scope, refused, unbuilt};
 
 /// Lowers the statements of a block behind those so far. Refused exactly as its definition tells; want of memory is the free answer.
 pub fn lower_block(
@@ -99,7 +100,7 @@ fn lower_assign(
 }
 
 // A variable keeps its type after its first assignment.
-#[tactic(auto, using(crate::proofs::Tell::stop_tells), unfolding(crate::specs::Told::choose, crate::specs::Walk::assigned))]
+#[tactic(auto, using(walk_scope::proofs::Tell::stop_tells), unfolding(walk_scope::specs::Told::choose, crate::specs::Walk::assigned))]
 fn keep_type(
     alloc: Global,
     name: &Ident,

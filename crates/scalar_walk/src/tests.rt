@@ -1,7 +1,6 @@
 //! Functions of two inputs, lowered.
 
-use crate::name_set::NameSet;
-use crate::{Scope, lower_function};
+use crate::lower_function;
 use c_tree::{CKind, CTree};
 use fic_base::{Code, Place, Refusal, Text};
 use mat_ast::{BinOp, Expr, Func, Ident, Stmt, assign, binary, name};
@@ -9,6 +8,7 @@ use num_type::{Memory, NumType, Stop};
 use sqlite_items::Items;
 use std::alloc::{AllocError, Global};
 use std::test::Fail;
+use walk_scope::{NameSet, Scope};
 
 /// A name of a header or a target.
 pub fn ident(alloc: Global, text: &[u8]) -> Result<Ident, AllocError> {

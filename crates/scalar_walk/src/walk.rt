@@ -1,5 +1,6 @@
 //! The walk over expressions: each is typed, and lowered behind the statements of its parts.
 
+ghost use Rattle.walk_scope.specs.Scope as scoped;
 ghost use Rattle.std.specs.Prelude.{◌≡◌, ◌≤◌, true, [], ◌∷◌, length, IfOk, OnOk, Some, Ok};
 ghost use Rattle.fic_base.specs.declared.code.Code.TheVariants as code;
 ghost use Rattle.num_type.specs.View.{type_of};
@@ -9,27 +10,30 @@ ghost use Rattle.fi_eval.specs.Operators.{work_of};
 ghost use Rattle.fi_eval.specs.Operators as operators;
 ghost use Rattle.fi_eval.specs.Meaning as meaning;
 ghost use Rattle.scalar_walk.specs.Lowered.{IsLowered, IsSigned, IsTurned};
-ghost use Rattle.scalar_walk.specs.Told.{bind};
+ghost use Rattle.walk_scope.specs.Told.{bind};
 ghost use Rattle.scalar_walk.specs.Walk as walk;
 ghost use Rattle.scalar_walk.specs.Walk.{Typed};
-ghost use Rattle.scalar_walk.specs.View.{Tells, StopTells, IsStop, IsOperation, AreBelow, IsUnder, names_view, types_view, scope_view, around_view, typed_view, operand_view, emitted_view, low_view};
+ghost use Rattle.walk_scope.specs.View.{Tells, StopTells, IsStop, scope_view};
+ghost use Rattle.scalar_walk.specs.View.{IsOperation, AreBelow, IsUnder, names_view, types_view, around_view, typed_view, operand_view, emitted_view, low_view};
 
 use crate::emitted::Emitted;
-use crate::names::{is_division, is_supported, is_unsupported};
 use crate::operand::Operand;
 use crate::operations::{Pair, Turn, lower_pair, lower_turn};
 use crate::results::count;
-use crate::scope::{Scope, arg_count, is_abs, is_function, is_variable, refused, text_at, unbuilt};
 use crate::variables::Variables;
 use fic_base::{Code, Place, Refusal};
 use mat_ast::{Arg, BinOp, Expr, ExprKind, Row, UnOp};
 use num_type::Stop;
 use std::alloc::Global;
+use walk_scope::{
+    Scope, arg_count, is_abs, is_division, is_function, is_supported, is_unsupported, is_variable,
+    refused, text_at, unbuilt,
+};
 
 // The refusal of a name that is no variable.
-#[tactic(auto, using(crate::proofs::Tell::is_told), unfolding(crate::specs::Told::choose))]
+#[tactic(auto, using(walk_scope::proofs::Tell::is_told), unfolding(walk_scope::specs::Told::choose))]
 fn other_name(alloc: Global, scope: &Scope<'_>, at: Place, name: &[u8]) -> Stop<Refusal>
-    ensures { StopTells {A = Typed} result (walk.other_name (scope_view scope.now) at name.now) }
+    ensures { StopTells {A = Typed} result (scoped.other_name (scope_view scope.now) at name.now) }
 {
     if is_function(scope, name) || is_supported(name) || is_unsupported(name) {
         refused(alloc, Code::Unsupported, at, name)
@@ -41,7 +45,7 @@ fn other_name(alloc: Global, scope: &Scope<'_>, at: Place, name: &[u8]) -> Stop<
 }
 
 // The refusal of a call that isn't that of a variable, with so many arguments.
-#[tactic(auto, using(crate::proofs::Tell::is_told), unfolding(crate::specs::Told::choose))]
+#[tactic(auto, using(walk_scope::proofs::Tell::is_told), unfolding(walk_scope::specs::Told::choose))]
 fn call_refused(
     alloc: Global,
     scope: &Scope<'_>,
@@ -49,7 +53,7 @@ fn call_refused(
     name: &[u8],
     count: usize,
 ) -> Stop<Refusal>
-    ensures { StopTells {A = Typed} result (walk.call_refused (scope_view scope.now) at name.now count) }
+    ensures { StopTells {A = Typed} result (scoped.call_refused (scope_view scope.now) at name.now count) }
 {
     if !is_abs(scope, name) {
         return other_name(alloc, scope, at, name);
@@ -62,7 +66,7 @@ fn call_refused(
 }
 
 // The refusal of a subscripted read, or of a call with so many arguments: a variable needs a type before that.
-#[tactic(auto, using(crate::proofs::Tell::is_told, crate::proofs::Tell::err_tells, crate::proofs::Tell::stop_tells, crate::proofs::Tell::part_tells), unfolding(crate::specs::Told::choose, crate::specs::Told::bind, crate::specs::Walk::known))]
+#[tactic(auto, using(walk_scope::proofs::Tell::is_told, walk_scope::proofs::Tell::err_tells, walk_scope::proofs::Tell::stop_tells, walk_scope::proofs::Tell::part_tells), unfolding(walk_scope::specs::Told::choose, walk_scope::specs::Told::bind, crate::specs::Walk::known))]
 fn access(
     alloc: Global,
     scope: &Scope<'_>,
@@ -83,7 +87,7 @@ fn access(
 }
 
 // A name as an expression.
-#[tactic(auto, using(crate::proofs::Tell::is_told, crate::proofs::Tell::err_tells, crate::proofs::Tell::stop_tells, crate::proofs::Tell::part_tells), unfolding(crate::specs::Told::choose, crate::specs::Told::bind, crate::specs::Walk::known))]
+#[tactic(auto, using(walk_scope::proofs::Tell::is_told, walk_scope::proofs::Tell::err_tells, walk_scope::proofs::Tell::stop_tells, walk_scope::proofs::Tell::part_tells), unfolding(walk_scope::specs::Told::choose, walk_scope::specs::Told::bind, crate::specs::Walk::known))]
 fn lower_name(
     alloc: Global,
     scope: &Scope<'_>,
@@ -119,7 +123,7 @@ fn division(alloc: Global, scope: &Scope<'_>, at: Place) -> Stop<Refusal>
 }
 
 // A binary operator on two operands.
-#[tactic(auto, using(crate::proofs::Tell::stop_tells), unfolding(crate::specs::Walk::operator_typed))]
+#[tactic(auto, using(walk_scope::proofs::Tell::stop_tells), unfolding(crate::specs::Walk::operator_typed))]
 fn lower_operator(
     alloc: Global,
     scope: &Scope<'_>,
@@ -150,7 +154,7 @@ fn lower_operator(
 }
 
 // A sign before an operand. Plus emits nothing.
-#[tactic(auto, using(crate::proofs::Tell::part_tells, crate::proofs::Tell::stop_tells), unfolding(crate::specs::Walk::sign_typed, crate::specs::Told::bind, crate::specs::Lowered::IsSigned))]
+#[tactic(auto, using(walk_scope::proofs::Tell::part_tells, walk_scope::proofs::Tell::stop_tells), unfolding(crate::specs::Walk::sign_typed, walk_scope::specs::Told::bind, crate::specs::Lowered::IsSigned))]
 fn lower_sign(
     alloc: Global,
     scope: &Scope<'_>,
@@ -176,7 +180,7 @@ fn lower_sign(
 }
 
 // A subscripted read or a call with this argument.
-#[tactic(auto, using(crate::proofs::Tell::err_tells), unfolding(crate::specs::Told::choose))]
+#[tactic(auto, using(walk_scope::proofs::Tell::err_tells), unfolding(walk_scope::specs::Told::choose))]
 fn call_on(
     alloc: Global,
     scope: &Scope<'_>,
@@ -383,7 +387,7 @@ fn refuse_part(
     out: &mut Emitted,
 ) -> Stop<Refusal>
     requires { AreBelow (names_view names.now) (length out.old.words) }
-    ensures told { StopTells {A = Typed} result (bind (walk.typed (expr_view part.now) (scope_view scope.now) (types_view names.now) (around_view around.entry) out.old.nodes) (λ r. walk.unbuilt (scope_view scope.now) at)) }
+    ensures told { StopTells {A = Typed} result (bind (walk.typed (expr_view part.now) (scope_view scope.now) (types_view names.now) (around_view around.entry) out.old.nodes) (λ r. scoped.unbuilt (scope_view scope.now) at)) }
 {
     match lower_expr(part, alloc, scope, names, around, out) {
         Ok(_) => unbuilt(alloc, scope, at),
@@ -468,7 +472,7 @@ fn refuse_rows(
     out: &mut Emitted,
 ) -> Stop<Refusal>
     requires { AreBelow (names_view names.now) (length out.old.words) }
-    ensures told { StopTells {A = Typed} result (bind (walk.rows_typed (rows_view rows.now) (scope_view scope.now) (types_view names.now) (around_view around.entry) out.old.nodes) (λ m. walk.unbuilt (scope_view scope.now) at)) }
+    ensures told { StopTells {A = Typed} result (bind (walk.rows_typed (rows_view rows.now) (scope_view scope.now) (types_view names.now) (around_view around.entry) out.old.nodes) (λ m. scoped.unbuilt (scope_view scope.now) at)) }
 {
     match visit_rows(rows, alloc, scope, names, around, out) {
         Ok(()) => unbuilt(alloc, scope, at),
@@ -528,7 +532,7 @@ fn inside<'a>(scope: &Scope<'_>, name: &'a [u8], around: Option<&'a [u8]>) -> Op
 }
 
 // The refusal of `end`: the variable that it belongs to needs a type before that.
-#[tactic(auto, using(crate::proofs::Tell::is_told, crate::proofs::Tell::err_tells, crate::proofs::Tell::stop_tells, crate::proofs::Tell::part_tells), unfolding(crate::specs::Told::bind, crate::specs::Walk::known, crate::specs::Walk::end_typed))]
+#[tactic(auto, using(walk_scope::proofs::Tell::is_told, walk_scope::proofs::Tell::err_tells, walk_scope::proofs::Tell::stop_tells, walk_scope::proofs::Tell::part_tells), unfolding(walk_scope::specs::Told::bind, crate::specs::Walk::known, crate::specs::Walk::end_typed))]
 fn end_refused(
     alloc: Global,
     scope: &Scope<'_>,

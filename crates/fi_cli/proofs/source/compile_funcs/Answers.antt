@@ -6,7 +6,7 @@ use Rattle.mat_token.specs.Lexeme.{lexemes_of}
 use Rattle.fi_eval.specs.Meaning.{function_named}
 use Rattle.c_tree.specs.declared.tree.CTree.{CTree}
 use Rattle.c_tree.specs.View.{program_view}
-use Rattle.scalar_walk.specs.Shown.{text_at}
+use Rattle.walk_scope.specs.Shown.{text_at}
 use Rattle.scalar_walk.specs.Walk.{walked}
 use Rattle.scalar_walk.specs.Lowered.{real_slots}
 use Rattle.scalar_walk.specs.Correspondence.{IsProgramOf}

@@ -8,9 +8,11 @@ use Rattle.mat_ast.specs.View.{func_view, block_view}
 use Rattle.c_tree.specs.View.{program_view}
 use Rattle.c_tree.specs.declared.tree.CTree.{CTree}
 use Rattle.scalar_walk.specs.Lowered.{Emitted, IsBlockLowered, inputs_from, no_names, outputs_lowered, program_of}
-use Rattle.scalar_walk.specs.Told.{Refuses, bind, choose}
-use Rattle.scalar_walk.specs.Walk.{block_walked, outputs_typed, counts_text}
-use Rattle.scalar_walk.specs.View.{Tells, TellsTypes, AreBelow, names_view, emitted_view, operand_view, behind_view, scope_view, walked_view}
+use Rattle.walk_scope.specs.Told.{Refuses, bind, choose}
+use Rattle.scalar_walk.specs.Walk.{block_walked, outputs_typed}
+use Rattle.walk_scope.specs.Scope.{counts_text}
+use Rattle.walk_scope.specs.View.{Tells, scope_view}
+use Rattle.scalar_walk.specs.View.{TellsTypes, AreBelow, names_view, emitted_view, operand_view, behind_view, walked_view}
 use Rattle.scalar_walk.proofs.Functions.{start_of, wrong_count, starts, body_refused, outputs_refused, function_passes}
 use Rattle.scalar_walk.proofs.Whole.{program_right, all_within}
 use Rattle.scalar_walk.proofs.Lows.{function_low, inputs_below, none_below}

@@ -7,10 +7,10 @@ use Rattle.mat_token.specs.Lexeme.{lexemes_of}
 use Rattle.mat_ast.specs.View.{func_view, funcs_view}
 use Rattle.fi_eval.specs.Meaning.{Context, context_of}
 use Rattle.c_tree.specs.View.{program_view}
-use Rattle.scalar_walk.specs.Shown.{text_at}
-use Rattle.scalar_walk.specs.declared.name_set.NameSet.{NameSet}
-use Rattle.scalar_walk.specs.NameSets.{names_in}
-use Rattle.scalar_walk.specs.Walk.{Scope, scope_of}
+use Rattle.walk_scope.specs.Shown.{text_at}
+use Rattle.walk_scope.specs.declared.name_set.NameSet.{NameSet}
+use Rattle.walk_scope.specs.NameSets.{names_in}
+use Rattle.walk_scope.specs.Scope.{Scope, scope_of}
 use Rattle.scalar_walk.proofs.Files.{file_none, file_headers, file_function, file_right}
 use Rattle.scalar_walk.proofs.file.lower_file.Goals as goal
 

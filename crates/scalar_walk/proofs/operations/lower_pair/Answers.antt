@@ -3,7 +3,7 @@ use Rattle.std.proofs.lemmas.Result.{err_from_is_err_and}
 use Rattle.num_type.specs.View.{type_of}
 use Rattle.fi_math.specs.View.{made_of}
 use Rattle.lower_scalar.specs.Part.{part_view}
-use Rattle.scalar_walk.specs.Told.{Passes}
+use Rattle.walk_scope.specs.Told.{Passes}
 use Rattle.scalar_walk.specs.View.{operand_view, emitted_view, typed_view, work_of_pair}
 use Rattle.scalar_walk.proofs.Tell.{pair_told, pair_limited}
 use Rattle.scalar_walk.proofs.Lows.{pair_found, sets_pair}

@@ -2,11 +2,12 @@ use Rattle.std.proofs.Common.{None, Err, length, sym, ap, subst, ◌∙◌}
 use Rattle.std.proofs.lemmas.Result.{err_from_is_err_and}
 use Rattle.num_type.specs.View.{type_of}
 use Rattle.mat_ast.specs.View.{expr_view}
-use Rattle.scalar_walk.specs.Told.{Passes}
+use Rattle.walk_scope.specs.Told.{Passes}
 use Rattle.scalar_walk.specs.Walk.{Types, typed, assigned, with_type}
-use Rattle.scalar_walk.specs.View.{AreBelow, names_view, types_view, scope_view, emitted_view, operand_view, low_view, typed_view, walked_view}
+use Rattle.scalar_walk.specs.View.{AreBelow, names_view, types_view, emitted_view, operand_view, low_view, typed_view, walked_view}
+use Rattle.walk_scope.specs.View.{scope_view}
 use Rattle.scalar_walk.proofs.Lows.{assign_low, below_more, below_with}
-use Rattle.scalar_walk.proofs.Tell.{part_tells, next_tells, passed, err_tells}
+use Rattle.walk_scope.proofs.Tell.{part_tells, next_tells, passed, err_tells}
 use Rattle.scalar_walk.proofs.Walks.{tells_stop}
 use Rattle.scalar_walk.proofs.Outputs.{types_set}
 use Rattle.scalar_walk.proofs.statements.lower_assign.Goals as goal

@@ -3,10 +3,11 @@ use Rattle.std.proofs.lemmas.Result.{err_from_is_err_and}
 use Rattle.mat_ast.specs.View.{stmt_view, block_view}
 use Rattle.scalar_walk.specs.Lowered.{IsBlockLowered}
 use Rattle.scalar_walk.specs.Walk.{sta_walked, block_walked}
-use Rattle.scalar_walk.specs.View.{Tells, names_view, emitted_view, behind_view, scope_view, walked_view}
+use Rattle.walk_scope.specs.View.{Tells, scope_view}
+use Rattle.scalar_walk.specs.View.{names_view, emitted_view, behind_view, walked_view}
 use Rattle.scalar_walk.proofs.Lows.{block_low}
-use Rattle.scalar_walk.proofs.Tell.{part_tells, passed}
-use Rattle.scalar_walk.proofs.Steps.{left_at, left_none}
+use Rattle.walk_scope.proofs.Tell.{part_tells, passed}
+use Rattle.walk_scope.proofs.Lefts.{left_at, left_none}
 use Rattle.scalar_walk.proofs.statements.lower_block.Goals as goal
 
 pub loop-s-preserved : goal.loop-s-preserved

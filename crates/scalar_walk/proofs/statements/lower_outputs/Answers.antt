@@ -2,12 +2,13 @@ use Rattle.std.proofs.Common.{sym, ap, ◌∙◌, ◌+◌, ◌++◌, drop, map, 
 use Rattle.fic_base.specs.declared.code.Code.TheVariants as code
 use Rattle.num_type.specs.View.{type_of}
 use Rattle.scalar_walk.specs.Lowered.{outputs_lowered, and_then}
-use Rattle.scalar_walk.specs.Told.{Refuses}
+use Rattle.walk_scope.specs.Told.{Refuses}
 use Rattle.scalar_walk.specs.Walk.{outputs_typed}
 use Rattle.scalar_walk.specs.View.{names_view, types_view, operand_view}
 use Rattle.scalar_walk.proofs.Outputs.{typed_start, typed_step, typed_refused, typed_end}
-use Rattle.scalar_walk.proofs.Steps.{outputs_start, outputs_step, outputs_end, left_at, left_none}
-use Rattle.scalar_walk.proofs.Tell.{stop_tells}
+use Rattle.scalar_walk.proofs.Steps.{outputs_start, outputs_step, outputs_end}
+use Rattle.walk_scope.proofs.Lefts.{left_at, left_none}
+use Rattle.walk_scope.proofs.Tell.{stop_tells}
 use Rattle.scalar_walk.proofs.statements.lower_outputs.Goals as goal
 
 pub loop-o-init : goal.loop-o-init

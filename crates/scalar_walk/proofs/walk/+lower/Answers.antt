@@ -7,13 +7,15 @@ use Rattle.mat_ast.specs.declared.tree.ExprKind.TheVariants as kind
 use Rattle.mat_ast.specs.Tree as ast
 use Rattle.scalar_walk.specs.Lowered.{IsLowered}
 use Rattle.std.specs.Prelude.{IfOk}
-use Rattle.scalar_walk.specs.Told.{Passes, ◌>>=◌}
-use Rattle.scalar_walk.specs.Walk.{typed, args_typed, row_typed, rows_typed, apply_typed, call_typed, sign_typed, inside, counted, unbuilt}
-use Rattle.scalar_walk.specs.View.{Tells, StopTells, names_view, emitted_view, low_view, scope_view, types_view, around_view, typed_view}
+use Rattle.walk_scope.specs.Told.{Passes, ◌>>=◌}
+use Rattle.scalar_walk.specs.Walk.{typed, args_typed, row_typed, rows_typed, apply_typed, call_typed, sign_typed, inside, counted}
+use Rattle.walk_scope.specs.Scope.{unbuilt}
+use Rattle.walk_scope.specs.View.{Tells, StopTells, scope_view}
+use Rattle.scalar_walk.specs.View.{names_view, emitted_view, low_view, types_view, around_view, typed_view}
 use Rattle.scalar_walk.proofs.Lows.{binary_low, sign_low, call_low}
 use Rattle.scalar_walk.proofs.Views.{apply_view, binary_view, cells_view, item_view, all_view}
-use Rattle.scalar_walk.proofs.Steps.{left_at, left_none}
-use Rattle.scalar_walk.proofs.Tell.{is_told, err_tells, part_tells, next_tells, passed}
+use Rattle.walk_scope.proofs.Lefts.{left_at, left_none}
+use Rattle.walk_scope.proofs.Tell.{is_told, err_tells, part_tells, next_tells, passed}
 use Rattle.scalar_walk.proofs.Walks.{many_told, item_stop, item_told, part_stops, stops_behind, tells_stop, args_step, args_stop, binary_first, binary_second, binary_last, range_first, range_last, range_step, range_by_last}
 use Rattle.scalar_walk.proofs.walk.+lower.Goals as goal
 

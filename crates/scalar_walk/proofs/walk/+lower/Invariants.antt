@@ -1,7 +1,8 @@
 use Rattle.std.proofs.Common.{◌≡◌, ◌≤◌, length, drop, map}
 use Rattle.mat_ast.specs.View.{args_view, rows_view, row_of, expr_view}
 use Rattle.scalar_walk.specs.Walk.{args_typed, row_typed, rows_typed}
-use Rattle.scalar_walk.specs.View.{scope_view, types_view, around_view}
+use Rattle.walk_scope.specs.View.{scope_view}
+use Rattle.scalar_walk.specs.View.{types_view, around_view}
 use Rattle.scalar_walk.proofs.walk.+lower.Given as goal
 
 abbrev pub invariant-visit_args-loop-arg : goal.invariant-visit_args-loop-arg

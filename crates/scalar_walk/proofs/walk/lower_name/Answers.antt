@@ -2,7 +2,8 @@ use Rattle.std.proofs.Common.{◌≤◌, length, sym, subst}
 use Rattle.lower_scalar.specs.Part.{reach}
 use Rattle.scalar_walk.specs.Lowered.{read}
 use Rattle.scalar_walk.proofs.Lows.{name_low, name_below}
-use Rattle.scalar_walk.specs.View.{names_view, operand_view, scope_view}
+use Rattle.scalar_walk.specs.View.{names_view, operand_view}
+use Rattle.walk_scope.specs.View.{scope_view}
 use Rattle.scalar_walk.proofs.walk.lower_name.Goals as goal
 
 pub returns-in_ok-count-in-Some-clause-low : goal.returns-in_ok-count-in-Some-clause-low

@@ -2,8 +2,10 @@ use Rattle.std.proofs.Common.{ap, sym, subst}
 use Rattle.fic_base.specs.declared.code.Code.TheVariants as code
 use Rattle.num_type.specs.View.{type_of}
 use Rattle.scalar_walk.specs.Walk.{task_of, operator_typed}
-use Rattle.scalar_walk.specs.View.{Tells, scope_view, typed_view}
-use Rattle.scalar_walk.proofs.Tell.{stop_tells, later, later_told}
+use Rattle.walk_scope.specs.View.{Tells, scope_view}
+use Rattle.scalar_walk.specs.View.{typed_view}
+use Rattle.walk_scope.proofs.Tell.{stop_tells}
+use Rattle.scalar_walk.proofs.Tell.{later, later_told}
 use Rattle.scalar_walk.proofs.walk.lower_operator.Goals as goal
 
 pub returns-in_default-clause-told : goal.returns-in_default-clause-told

@@ -1,9 +1,0 @@
-use Rattle.std.proofs.Common.{◌≡◌, [], drop, take, map, reverse}
-use Rattle.mat_ast.specs.View.{funcs_view}
-use Rattle.scalar_walk.specs.NameSets.{names_in}
-use Rattle.scalar_walk.specs.Walk.{headers_checked}
-use Rattle.scalar_walk.proofs.headers.check_headers.Given as goal
-
-abbrev pub invariant-loop-k : goal.invariant-loop-k
-invariant-loop-k l = (headers_checked (funcs_view l.funcs) [] ≡ headers_checked (funcs_view (drop l.k l.funcs)) (reverse (map (λ f. f.name.text) (take l.k l.funcs))))
-    × (names_in l.seen ≡ map (λ f. f.name.text) (take l.k l.funcs))

@@ -1,7 +1,0 @@
-use Rattle.std.proofs.Common.{◌≡◌, drop}
-use Rattle.mat_token.specs.Lexeme.{lexemes_of}
-use Rattle.scalar_walk.specs.Shown.{text_at}
-use Rattle.scalar_walk.proofs.scope.text_at.Given as goal
-
-abbrev pub invariant-loop-t : goal.invariant-loop-t
-invariant-loop-t l = text_at (lexemes_of l.bytes l.tokens) l.at ≡ text_at (lexemes_of l.bytes (drop l.t-index l.tokens)) l.at

@@ -1,0 +1,5 @@
+pub mod Tell
+pub mod Lefts
+pub mod Entries
+pub mod Tables
+pub mod Checks
