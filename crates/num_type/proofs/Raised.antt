@@ -50,10 +50,10 @@ few : (z : ℤ) → nat_abs z < 2 ^ 53 → unsigned_abs z ≤ 2 ^ 53
 few (pos n) h = omega (arith, ints, h)
 few (negsuc n) h = omega (arith, ints, h)
 
-plain_m : (d : Dyadic) → to_z w64 (of_z w64 d.m) ≡ d.m
+pub plain_m : (d : Dyadic) → to_z w64 (of_z w64 d.m) ≡ d.m
 plain_m d = plain d.m (omega (arith, ints, d.bits)) (omega (arith, ints, d.bits))
 
-plain_e : (d : Dyadic) → to_z w32 (of_z w32 d.e) ≡ d.e
+pub plain_e : (d : Dyadic) → to_z w32 (of_z w32 d.e) ≡ d.e
 plain_e d = plain_short d.e d.least (top_of d)
 
 -- the product, as the machine makes it

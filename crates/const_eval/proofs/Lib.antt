@@ -1,0 +1,11 @@
+pub mod Alike
+pub mod Fives
+pub mod Inverses
+pub mod Pairs
+pub mod Powers
+pub mod Products
+pub mod Readings
+pub mod Zeros
+pub mod Listed
+pub mod Operated
+pub mod Exponents

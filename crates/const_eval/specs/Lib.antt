@@ -1,0 +1,9 @@
+pub mod Complex
+pub mod Digits
+pub mod Elementwise
+pub mod Folds
+pub mod Listed
+pub mod Literals
+pub mod Powers
+pub mod Refusals
+pub mod Values

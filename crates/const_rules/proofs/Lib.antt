@@ -1,0 +1,11 @@
+pub mod Answers
+pub mod BestFraction
+pub mod ComplexFolds
+pub mod Folds
+pub mod Inverses
+pub mod KeptAnswers
+pub mod LiteralValues
+pub mod OneForm
+pub mod Splits
+pub mod Stored
+pub mod Worked
