@@ -27,9 +27,9 @@ use Rattle.walk_scope.specs.Told as told
 use Rattle.walk_scope.specs.Told.{Told}
 use Rattle.walk_scope.specs.Shown.{text_at}
 use Rattle.scalar_walk.specs.Walk.{walked, entry_walked}
-use Rattle.scalar_walk.specs.Lowered.{real_slots}
-use Rattle.scalar_walk.specs.Correspondence.{IsProgramOf}
-use Rattle.scalar_walk.specs.Right.{HasNames}
+use Rattle.scalar_program.specs.Lowered.{real_slots}
+use Rattle.scalar_program.specs.Correspondence.{IsProgramOf}
+use Rattle.scalar_program.specs.Right.{HasNames}
 use Rattle.scalar_walk.specs.View.{TellsTypes}
 use Rattle.fi_cli.specs.Source.{num_types, declared_slots, IsRefusal, IsCompiled}
 use Rattle.fi_cli.specs.View.{AreScalars, RefusesAt}

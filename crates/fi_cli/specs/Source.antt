@@ -20,7 +20,7 @@ use Rattle.c_tree.specs.WellFormed.{IsWellFormed}
 use Rattle.walk_scope.specs.Told.{Told, Passes, Refuses}
 use Rattle.walk_scope.specs.Shown.{text_at}
 use Rattle.scalar_walk.specs.Walk.{walked}
-use Rattle.scalar_walk.specs.Correspondence.{IsProgramOf}
+use Rattle.scalar_program.specs.Correspondence.{IsProgramOf}
 
 -- the types of the elements
 abbrev pub num_types : List Declared → List NumericType

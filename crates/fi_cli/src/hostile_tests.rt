@@ -7,7 +7,7 @@ use std::test::Fail;
 const HEADER: &str = "function y = f(a, b)\n";
 
 /// Checks rows of types, source and line.
-fn check_rows(rt: HostRuntime, rows: &[(&str, &str, &str)]) -> Result<(), Fail> {
+pub fn check_rows(rt: HostRuntime, rows: &[(&str, &str, &str)]) -> Result<(), Fail> {
     for (types, source, line) in rows {
         let mut text = String::new(rt.alloc());
         match source.strip_prefix('$') {
@@ -51,7 +51,7 @@ fn tokens(rt: HostRuntime) -> Result<(), Fail> {
                 "2:5 E06 nnnnnnnnnnnnnnnnnnnnnnnnnnnnnnnnnnnnnnnnnnnnnnnnnnnnnnnnnnnnnnn",
             ),
             ("s8.4 s8.4", "$y = 1e;\n", "2:6 E03 e"),
-            ("s8.4 s8.4", "$y = 1.*a;\n", "2:5 E19 1"),
+            ("s8.4 s8.4", "$y = 1.*q;\n", "2:8 E06 q"),
             ("s8.4 s8.4", "$y = 1.5e3i;\n", "2:5 E19 1.5e3i"),
             (
                 "s8.4 s8.4",
@@ -78,9 +78,9 @@ fn quotes_and_brackets(rt: HostRuntime) -> Result<(), Fail> {
             ("s8.4 s8.4", "$y = a.';\n", "2:6 E19 .'"),
             ("s8.4 s8.4", "$y = (a)';\n", "2:8 E19 '"),
             ("s8.4 s8.4", "$y = a'';\n", "2:6 E19 '"),
-            ("s8.4 s8.4", "$y = a + 'x';\n", "2:9 E19 'x'"),
-            ("s8.4 s8.4", "$y = 'it''s';\n", "2:5 E19 'it''s'"),
-            ("s8.4 s8.4", "$y = \"a\"\"b\";\n", "2:5 E19 \"a\"\"b\""),
+            ("s8.4 s8.4", "$y = a + 'x';\n", "2:7 E18 +"),
+            ("s8.4 s8.4", "$y = 'it''s';\n", "2:1 E08 y"),
+            ("s8.4 s8.4", "$y = \"a\"\"b\";\n", "2:1 E08 y"),
             ("s8.4 s8.4", "$if 'x', end\n", "2:1 E19 if"),
             ("s8.4 s8.4", "$y = [a b];\n", "2:5 E19 ["),
             ("s8.4 s8.4", "$y = [a -b];\n", "2:5 E19 ["),
@@ -164,15 +164,16 @@ fn kinds_that_are_not_built(rt: HostRuntime) -> Result<(), Fail> {
     check_rows(
         rt,
         &[
-            ("s8.4 s8.4", "$y = 2;\n", "2:5 E19 2"),
+            ("s8.4 s8.4", "$y = 2i;\n", "2:5 E19 2i"),
             ("s8.4 s8.4", "$y = ~a;\n", "2:5 E19 ~"),
             ("s8.4 s8.4", "$y = a ^ b;\n", "2:7 E19 ^"),
             ("s8.4 s8.4", "$y = a == b;\n", "2:7 E19 =="),
             ("s8.4 s8.4", "$y = a && b;\n", "2:7 E19 &&"),
             ("s8.4 s8.4", "$y = a:b;\n", "2:6 E19 :"),
-            ("s8.4 s8.4", "$y = a(1);\n", "2:7 E19 1"),
+            ("s8.4 s8.4", "$y = a(1);\n", "2:5 E19 a"),
             ("s8.4 s8.4", "$y = a(:);\n", "2:5 E19 a"),
-            ("s8.4 s8.4", "$y = fi(a);\n", "2:5 E19 fi"),
+            ("s8.4 s8.4", "$y = true;\n", "2:5 E19 true"),
+            ("s8.4 s8.4", "$y = fi(true,1,8,0);\n", "2:8 E19 true"),
             ("s8.4 s8.4", "$y = sqrt(a);\n", "2:5 E19 sqrt"),
             ("s8.4 s8.4", "$y = mod(a, b);\n", "2:5 E09 mod"),
             ("s8.4 s8.4", "$y = a \\ b;\n", "2:7 E09 \\"),

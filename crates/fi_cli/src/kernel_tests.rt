@@ -91,7 +91,7 @@ fn check(rt: HostRuntime, kernel: Kernel<'_>) -> Result<(), Fail> {
 }
 
 /// Checks rows of statements, types of the inputs, type of the output, case and result.
-fn check_rows(rt: HostRuntime, rows: &[(&str, &str, &str, &str, &str)]) -> Result<(), Fail> {
+pub fn check_rows(rt: HostRuntime, rows: &[(&str, &str, &str, &str, &str)]) -> Result<(), Fail> {
     for (body, types, output, case, result) in rows {
         check(
             rt,

@@ -4,6 +4,8 @@
 mod call;
 mod command;
 #[cfg(test)]
+mod constant_tests;
+#[cfg(test)]
 mod hostile_tests;
 #[cfg(test)]
 mod kernel_tests;

@@ -1,4 +1,4 @@
 pub mod Outcome
-pub mod Value
 pub mod Operators
+pub mod Calls
 pub mod Meaning

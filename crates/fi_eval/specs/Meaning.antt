@@ -1,12 +1,15 @@
 -- What expressions, statements and functions of a source do, over its tree and without inference.
-use Rattle.std.specs.Prelude.{ℕ, Bool, not, ◌&&◌, ◌||◌, codes, if◌then◌else◌, List, [], ◌∷◌, ◌++◌, map, Option, Some, None, bytes_eq}
+use Rattle.std.specs.Prelude.{ℕ, Bool, not, ◌||◌, if◌then◌else◌, List, [], ◌∷◌, ◌++◌, map, Option, Some, None, bytes_eq}
 use Rattle.std.specs.List.{list_any}
 use Rattle.fic_base.specs.declared.place.Place.{Place}
 use Rattle.mat_ast.specs.declared.tree.Ident.{Ident}
-use Rattle.mat_ast.specs.Tree.{Exp, Number, Words, Name, Apply, End, Unary, Binary, Post, Range, RangeBy, Paren, Matrix, NoArgs, Item, Sta, Assign, Store, Multi, IfOnly, IfElse, ForEach, WhileTrue, BreakOff, GoOn, Arms, NoArms, Arm, Block, Done, Next, Fun}
+use Rattle.mat_ast.specs.Tree.{Exp, Number, Words, Name, Apply, End, Unary, Binary, Post, Range, RangeBy, Paren, Matrix, Args, NoArgs, Whole, Item, Sta, Assign, Store, Multi, IfOnly, IfElse, ForEach, WhileTrue, BreakOff, GoOn, Arms, NoArms, Arm, Block, Done, Next, Fun}
 use Rattle.fi_eval.specs.Outcome.{Got, Gives, Wrong, ◌>>=◌, or_wrong, when◌then◌else◌}
-use Rattle.fi_eval.specs.Value.{Val, Fi, ComplexFi, Logical}
-use Rattle.fi_eval.specs.Operators.{operated, signed, turned, Remove}
+use Rattle.const_rules.specs.LiteralValues.{literal_of}
+use Rattle.fi_rules.specs.Value as val
+use Rattle.fi_rules.specs.Value.{Val, Fi, ComplexFi, Logical, scalar}
+use Rattle.fi_eval.specs.Operators.{operated, signed}
+use Rattle.fi_eval.specs.Calls.{called_name}
 
 -- names with their values, the newest first
 abbrev pub Env : Type 0
@@ -29,36 +32,49 @@ is_listed name names = list_any (λ other. bytes_eq other name) names
 abbrev pub is_variable : Context → List ℕ → Bool
 is_variable cx name = is_listed name cx.variables
 
--- whether a name called is the built-in function abs: a variable or a function of the file goes before it
-abbrev pub is_abs : Context → List ℕ → Bool
-is_abs cx name = bytes_eq name (codes "abs") && not (is_variable cx name || is_listed name cx.functions)
+-- whether a name called may be that of a built-in function: a variable or a function of the file goes before it
+abbrev pub is_free : Context → List ℕ → Bool
+is_free cx name = not (is_variable cx name || is_listed name cx.functions)
 
--- a call with one argument
-abbrev pub called : Place → Context → List ℕ → Val → Got Place Val
-called at cx name v = when is_abs cx name then turned at Remove v else Wrong at
+-- a call of a name on values
+abbrev pub called : Place → Context → List ℕ → List Val → Got Place Val
+called at cx name vs = when is_free cx name then called_name at name vs else Wrong at
 
 -- the value of a variable at this place
 abbrev pub variable : Env → Place → List ℕ → Got Place Val
 variable env at name = or_wrong at (look_up env name)
 
--- the value of an expression; a kind that isn't built yet is wrong at its place
-abbrev pub value : Exp → Context → Env → Got Place Val
-value (Number at text imaginary) cx env = Wrong at
-value (Words at text) cx env = Wrong at
-value (Name at name) cx env = when is_variable cx name then variable env at name else Wrong at
-value (Apply at name opens (Item e NoArgs)) cx env = value e cx env >>= called at cx name
-value (Apply at name opens args) cx env = Wrong at
-value (End at) cx env = Wrong at
-value (Unary at sign e) cx env = value e cx env >>= signed at sign
-value (Binary at operator a b) cx env = do
-  x ← value a cx env
-  y ← value b cx env
-  operated at operator x y
-value (Post at mark e) cx env = Wrong at
-value (Range at first last) cx env = Wrong at
-value (RangeBy at first step last) cx env = Wrong at
-value (Paren at e) cx env = value e cx env
-value (Matrix at rows) cx env = Wrong at
+-- the constant of a number's text; imaginary ones aren't built yet
+abbrev pub number : Place → List ℕ → Bool → Got Place Val
+number at text imaginary = when imaginary then Wrong at else (or_wrong at (literal_of text) >>= (λ c. Gives (val.Number scalar (c ∷ []))))
+
+abbrev mutual
+  -- the value of an expression; a kind that isn't built yet is wrong at its place
+  pub value : Exp → Context → Env → Got Place Val
+  value (Number at text imaginary) cx env = number at text imaginary
+  value (Words at text) cx env = Gives (val.Words text)
+  value (Name at name) cx env = when is_variable cx name then variable env at name else called at cx name []
+  value (Apply at name opens args) cx env = values args at cx env >>= called at cx name
+  value (End at) cx env = Wrong at
+  value (Unary at sign e) cx env = value e cx env >>= signed at sign
+  value (Binary at operator a b) cx env = do
+    x ← value a cx env
+    y ← value b cx env
+    operated at operator x y
+  value (Post at mark e) cx env = Wrong at
+  value (Range at first last) cx env = Wrong at
+  value (RangeBy at first step last) cx env = Wrong at
+  value (Paren at e) cx env = value e cx env
+  value (Matrix at rows) cx env = Wrong at
+
+  -- the values of arguments from left to right; there is none for all of a dimension
+  pub values : Args → Place → Context → Env → Got Place (List Val)
+  values NoArgs at cx env = Gives []
+  values (Whole more) at cx env = Wrong at
+  values (Item e more) at cx env = do
+    v ← value e cx env
+    vs ← values more at cx env
+    Gives (v ∷ vs)
 
 -- where a statement leads: on, out of a loop, or to its next turn
 pub data Flow : Type 0 where

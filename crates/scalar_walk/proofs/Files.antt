@@ -15,9 +15,9 @@ use Rattle.c_tree.specs.Tree.{Program}
 use Rattle.c_tree.specs.declared.tree.CTree.{CTree}
 use Rattle.walk_scope.specs.Names.{is_listed}
 use Rattle.walk_scope.specs.Told.{Told, Passes, Refuses, bind, choose, when◌then◌else◌}
-use Rattle.scalar_walk.specs.Lowered.{real_slots}
-use Rattle.scalar_walk.specs.Correspondence.{IsProgramOf}
-use Rattle.scalar_walk.specs.Right.{IsHeader, IsRight, HasNames}
+use Rattle.scalar_program.specs.Lowered.{real_slots}
+use Rattle.scalar_program.specs.Correspondence.{IsProgramOf}
+use Rattle.scalar_program.specs.Right.{IsHeader, IsRight, HasNames}
 use Rattle.walk_scope.specs.Scope.{Scope, scope_of}
 use Rattle.walk_scope.specs.Headers.{names_checked, headers_checked}
 use Rattle.scalar_walk.specs.Walk.{function_walked, entry_walked, walked}

@@ -13,22 +13,20 @@ use Rattle.mat_ast.specs.declared.tree.Ident.{Ident}
 use Rattle.mat_ast.specs.Tree.{Fun}
 use Rattle.c_tree.specs.declared.tree.CTree.{CTree}
 use Rattle.walk_scope.specs.Told.{Told, Passes, Refuses, bind, choose}
-use Rattle.scalar_walk.specs.Lowered.{Operand, Input, Names, inputs_from, no_names}
-use Rattle.walk_scope.specs.Scope.{Scope, counts_text}
-use Rattle.scalar_walk.specs.Walk.{Walked, with_type, inputs_typed, no_types, block_walked, outputs_typed, function_walked}
+use Rattle.scalar_program.specs.Lowered.{Names, with_type, input_held, inputs_from, no_names}
+use Rattle.fi_rules.specs.Texts.{counts_text}
+use Rattle.walk_scope.specs.Scope.{Scope}
+use Rattle.scalar_walk.specs.Walk.{Walked, inputs_typed, no_types, block_walked, outputs_typed, function_walked}
 use Rattle.walk_scope.specs.View.{Tells, StopTells}
 use Rattle.scalar_walk.specs.View.{TellsTypes}
 use Rattle.walk_scope.proofs.Tell.{passed}
-use Rattle.scalar_walk.proofs.Walks.{part_stops, tells_stop}
+use Rattle.scalar_walk.proofs.Walks.{no_passes, part_stops, tells_stop}
 use Rattle.scalar_walk.proofs.Outputs.{types_in, types_set}
 
 -- a stop where types are told
 pub stop_types : (s : Stop Refusal) (told : Told (List NumericType)) → StopTells s told → TellsTypes {R = CTree} (Err s) told
 stop_types stop.Memory told h = h
 stop_types (stop.Refused r) told h = h
-
-no_passes : {A : Type 0} (x : A) (code : Code) (at : Place) (shown : List ℕ) → Passes x ≡ Refuses code at shown → ⊥
-no_passes x code at shown h = cc
 
 -- a refusal of one form as one of another
 other_refusal : (A B : Type 0) (c d : Code) (p q : Place) (s t : List ℕ) → ◌≡◌ {A = Told A} (Refuses c p s) (Refuses d q t) → ◌≡◌ {A = Told B} (Refuses c p s) (Refuses d q t)
@@ -58,8 +56,7 @@ pub types_inputs : (k : ℕ) (is : List Ident) (ts : List NumericType) (names : 
 types_inputs k [] ts names = refl
 types_inputs k (i ∷ is) [] names = refl
 types_inputs k (i ∷ is) (t ∷ ts) names =
-    let o : Operand = record { spot = Input k; num = t } in
-    types_inputs (suc k) is ts (with_type names i.text o) ∙ ap (inputs_typed is ts) (types_set names (with_type names i.text o) i.text o refl)
+    types_inputs (suc k) is ts (with_type names i.text (input_held k t)) ∙ ap (inputs_typed is ts) (types_set names (with_type names i.text (input_held k t)) i.text (input_held k t) refl)
 
 pub starts : (is : List Ident) (ts : List NumericType) (none names : Names) → none ≡ no_names → names ≡ inputs_from 0 is ts none → types_in names ≡ inputs_typed is ts no_types
 starts is ts none names n i = ap types_in i ∙ types_inputs 0 is ts none ∙ ap (λ m. inputs_typed is ts (types_in m)) n

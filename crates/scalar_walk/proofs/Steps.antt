@@ -1,6 +1,6 @@
 -- Steps of loops over inputs, slots and outputs.
 use Rattle.std.proofs.Common.{◌≡◌, ℕ, zero, suc, ◌+◌, ◌≤◌, List, [], ◌∷◌, ◌++◌, length, map, drop, ◌⊎◌, inl, inr, Option, Some, None, refl, sym, ap, ◌∙◌, arith, append_assoc, append-nil}
-use Rattle.std.specs.Prelude.{option_map, min}
+use Rattle.std.specs.Prelude.{min}
 use Rattle.std.proofs.Math.Nat.{min-eq_left, min-eq_right}
 use Rattle.std.proofs.lemmas.List.{map-append}
 use Rattle.mat_ast.specs.declared.tree.Ident.{Ident}
@@ -13,15 +13,14 @@ use Rattle.c_tree.specs.declared.tree.CArray.TheVariants as array
 use Rattle.c_tree.specs.View.{slot_view, stmt_view}
 use Rattle.walk_scope.proofs.Lefts.{left_none}
 use Rattle.scalar_walk.specs.declared.operand.Operand as code
-use Rattle.scalar_walk.specs.Walk.{with_type}
-use Rattle.scalar_walk.specs.Lowered.{Input, Operand, Names, and_then, inputs_from, outputs_lowered, real_slot, real_slots, stores_from, read}
+use Rattle.scalar_program.specs.Lowered.{Operand, Names, and_then, with_type, input_held, output_of, inputs_from, outputs_lowered, real_slot, real_slots, stores_from, read}
 use Rattle.scalar_walk.specs.View.{operand_view, spot_view}
 
-pub inputs_step : (k : ℕ) (is : List Ident) (ts : List NumType) (names later : Names) (i : Ident) (t : NumType) (bytes : List ℕ) → drop k is ≡ i ∷ drop (k + 1) is → drop k ts ≡ t ∷ drop (k + 1) ts → bytes ≡ i.text → later ≡ with_type names bytes (record { spot = Input k; num = type_of t }) → inputs_from k (drop k is) (map type_of (drop k ts)) names ≡ inputs_from (k + 1) (drop (k + 1) is) (map type_of (drop (k + 1) ts)) later
+pub inputs_step : (k : ℕ) (is : List Ident) (ts : List NumType) (names later : Names) (i : Ident) (t : NumType) (bytes : List ℕ) → drop k is ≡ i ∷ drop (k + 1) is → drop k ts ≡ t ∷ drop (k + 1) ts → bytes ≡ i.text → later ≡ with_type names bytes (input_held k (type_of t)) → inputs_from k (drop k is) (map type_of (drop k ts)) names ≡ inputs_from (k + 1) (drop (k + 1) is) (map type_of (drop (k + 1) ts)) later
 inputs_step k is ts names later i t bytes p q b l =
     let one : suc k ≡ k + 1 = omega arith in
     (λ j. inputs_from k (p j) (map type_of (q j)) names)
-    ∙ (λ j. inputs_from (one j) (drop (k + 1) is) (map type_of (drop (k + 1) ts)) (with_type names (sym b j) (record { spot = Input k; num = type_of t })))
+    ∙ (λ j. inputs_from (one j) (drop (k + 1) is) (map type_of (drop (k + 1) ts)) (with_type names (sym b j) (input_held k (type_of t))))
     ∙ ap (inputs_from (k + 1) (drop (k + 1) is) (map type_of (drop (k + 1) ts))) (sym l)
 
 pub inputs_end : (k : ℕ) (is : List Ident) (ts : List NumType) (names : Names) → (n : ℕ) → n ≤ k → ((n ≡ length is) ⊎ (n ≡ length ts)) → inputs_from k (drop k is) (map type_of (drop k ts)) names ≡ names
@@ -66,11 +65,11 @@ unfolding and_then
 outputs_start None = refl
 outputs_start (Some xs) = refl
 
-pub outputs_step : (os rest : List Ident) (names : Names) (found : Option code.Operand) (o : Ident) (x : code.Operand) (bytes : List ℕ) (done later : List code.Operand) → os ≡ o ∷ rest → option_map operand_view found ≡ names bytes → bytes ≡ o.text → found ≡ Some x → later ≡ done ++ (x ∷ []) → and_then (outputs_lowered os names) (λ more. Some (map operand_view done ++ more)) ≡ and_then (outputs_lowered rest names) (λ more. Some (map operand_view later ++ more))
+pub outputs_step : (os rest : List Ident) (names : Names) (o : Ident) (x : code.Operand) (done later : List code.Operand) → os ≡ o ∷ rest → and_then (names o.text) output_of ≡ Some (operand_view x) → later ≡ done ++ (x ∷ []) → and_then (outputs_lowered os names) (λ more. Some (map operand_view done ++ more)) ≡ and_then (outputs_lowered rest names) (λ more. Some (map operand_view later ++ more))
 unfolding and_then
-outputs_step os rest names found o x bytes done later e n b f l =
+outputs_step os rest names o x done later e n l =
     ap (λ t. and_then (outputs_lowered t names) (λ more. Some (map operand_view done ++ more))) e
-    ∙ ap (λ m. and_then (and_then m (λ y. and_then (outputs_lowered rest names) (λ ys. Some (y ∷ ys)))) (λ more. Some (map operand_view done ++ more))) (ap names (sym b) ∙ sym n ∙ ap (option_map operand_view) f)
+    ∙ ap (λ m. and_then (and_then m (λ y. and_then (outputs_lowered rest names) (λ ys. Some (y ∷ ys)))) (λ more. Some (map operand_view done ++ more))) n
     ∙ by (outputs_lowered rest names)
   where
     by : (m : Option (List Operand)) → and_then (and_then m (λ ys. Some (operand_view x ∷ ys))) (λ more. Some (map operand_view done ++ more)) ≡ and_then m (λ more. Some (map operand_view later ++ more))

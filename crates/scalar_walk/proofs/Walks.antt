@@ -1,7 +1,6 @@
 -- What is told of expressions, from what is told of their parts.
-use Rattle.std.proofs.Common.{◌≡◌, ℕ, suc, List, [], ◌∷◌, length, map, get_or, Option, Some, None, Err, refl, sym, ap, subst, ◌∙◌, arith}
+use Rattle.std.proofs.Common.{◌≡◌, ℕ, List, [], ◌∷◌, ◌++◌, map, Option, Some, None, Err, sym, ap, subst, ◌∙◌}
 use Rattle.std.specs.Prelude.{Result}
-use Rattle.std.proofs.lemmas.List.{length-map}
 use Rattle.fic_base.specs.declared.code.Code.{Code}
 use Rattle.fic_base.specs.declared.place.Place.{Place}
 use Rattle.fic_base.specs.declared.refusal.Refusal.{Refusal}
@@ -13,13 +12,16 @@ use Rattle.mat_ast.specs.declared.tree.ExprKind.TheVariants as kind
 use Rattle.mat_ast.specs.declared.tree.Arg.{Arg}
 use Rattle.mat_ast.specs.declared.tree.Arg.TheVariants as arg
 use Rattle.mat_ast.specs.View.{expr_view, arg_view, args_view, args_of}
-use Rattle.mat_ast.specs.Tree.{Exp, Binary, Apply}
+use Rattle.mat_ast.specs.Tree.{Exp, Binary}
 use Rattle.walk_scope.specs.Told.{Told, Passes, Refuses, ◌>>=◌, bind}
 use Rattle.walk_scope.specs.Scope.{Scope, unbuilt}
-use Rattle.scalar_walk.specs.Walk.{Types, Typed, typed, args_typed, operator_typed, task_of, inside, apply_typed, args_count}
+use Rattle.scalar_walk.specs.Walk.{Types, Typed, typed, args_typed, pair_typed}
+use Rattle.walk_scope.specs.Rules.{around_pair}
+use Rattle.fi_rules.specs.Pairs.{work_of}
+use Rattle.fi_rules.specs.Types.{Ty, OtherTy}
 use Rattle.walk_scope.specs.View.{Tells, StopTells}
 use Rattle.walk_scope.proofs.Tell.{err_tells, part_tells, next_tells, passed}
-use Rattle.scalar_walk.proofs.Views.{range_view, range_by_view, item_view}
+use Rattle.scalar_walk.proofs.Views.{range_view, range_by_view, item_view, all_view}
 
 -- a part refused in a bind refuses the whole
 pub part_stops : {A B : Type 0} (s : Stop Refusal) (told : Told A) (next : A → Told B) → StopTells s told → StopTells s (bind told next)
@@ -41,19 +43,19 @@ tells_stop (stop.Refused r) view told h = h
 pub binary_first : {R S : Type 0} (s : Stop Refusal) (view : R → Typed) (whole : S → Typed) (e : Exp) (at : Place) (o : BinOp) (a b : Exp) (sc : Scope) (types : Types) (around : Option (List ℕ)) (n : ℕ) → e ≡ Binary at o a b → Tells {R = R} (Err s) view (typed a sc types around n) → Tells {R = S} (Err s) whole (typed e sc types around n)
 binary_first s view whole e at o a b sc types around n h t =
     subst (λ x. Tells (Err s) whole (typed x sc types around n)) (sym h)
-    (part_tells s view whole (typed a sc types around n) (λ x. typed b sc types around x.1 >>= (λ y. operator_typed sc at (task_of o) x.0 y.0 y.1)) t)
+    (part_tells s view whole (typed a sc types around n) (λ x. typed b sc types around x.1 >>= (λ y. pair_typed at (around_pair (sc.shown at) a b) (work_of o) x.0 y.0 y.1)) t)
 
 pub binary_second : {R S : Type 0} (s : Stop Refusal) (view : R → Typed) (whole : S → Typed) (e : Exp) (at : Place) (o : BinOp) (a b : Exp) (sc : Scope) (types : Types) (around : Option (List ℕ)) (n : ℕ) (x : Typed) → e ≡ Binary at o a b → typed a sc types around n ≡ Passes x → Tells {R = R} (Err s) view (typed b sc types around x.1) → Tells {R = S} (Err s) whole (typed e sc types around n)
 binary_second s view whole e at o a b sc types around n x h p t =
     subst (λ x. Tells (Err s) whole (typed x sc types around n)) (sym h)
-    (next_tells (Err s) whole (typed a sc types around n) x (λ x. typed b sc types around x.1 >>= (λ y. operator_typed sc at (task_of o) x.0 y.0 y.1)) p
-    (part_tells s view whole (typed b sc types around x.1) (λ y. operator_typed sc at (task_of o) x.0 y.0 y.1) t))
+    (next_tells (Err s) whole (typed a sc types around n) x (λ x. typed b sc types around x.1 >>= (λ y. pair_typed at (around_pair (sc.shown at) a b) (work_of o) x.0 y.0 y.1)) p
+    (part_tells s view whole (typed b sc types around x.1) (λ y. pair_typed at (around_pair (sc.shown at) a b) (work_of o) x.0 y.0 y.1) t))
 
-pub binary_last : {S : Type 0} (r : Result S (Stop Refusal)) (whole : S → Typed) (e : Exp) (at : Place) (o : BinOp) (a b : Exp) (sc : Scope) (types : Types) (around : Option (List ℕ)) (n : ℕ) (x y : Typed) → e ≡ Binary at o a b → typed a sc types around n ≡ Passes x → typed b sc types around x.1 ≡ Passes y → Tells r whole (operator_typed sc at (task_of o) x.0 y.0 y.1) → Tells r whole (typed e sc types around n)
+pub binary_last : {S : Type 0} (r : Result S (Stop Refusal)) (whole : S → Typed) (e : Exp) (at : Place) (o : BinOp) (a b : Exp) (sc : Scope) (types : Types) (around : Option (List ℕ)) (n : ℕ) (x y : Typed) → e ≡ Binary at o a b → typed a sc types around n ≡ Passes x → typed b sc types around x.1 ≡ Passes y → Tells r whole (pair_typed at (around_pair (sc.shown at) a b) (work_of o) x.0 y.0 y.1) → Tells r whole (typed e sc types around n)
 binary_last r whole e at o a b sc types around n x y h p q t =
     subst (λ x. Tells r whole (typed x sc types around n)) (sym h)
-    (next_tells r whole (typed a sc types around n) x (λ x. typed b sc types around x.1 >>= (λ y. operator_typed sc at (task_of o) x.0 y.0 y.1)) p
-    (next_tells r whole (typed b sc types around x.1) y (λ y. operator_typed sc at (task_of o) x.0 y.0 y.1) q t))
+    (next_tells r whole (typed a sc types around n) x (λ x. typed b sc types around x.1 >>= (λ y. pair_typed at (around_pair (sc.shown at) a b) (work_of o) x.0 y.0 y.1)) p
+    (next_tells r whole (typed b sc types around x.1) y (λ y. pair_typed at (around_pair (sc.shown at) a b) (work_of o) x.0 y.0 y.1) q t))
 
 -- ---- a range
 
@@ -94,7 +96,7 @@ pub same_passed : {A : Type 0} (x y : A) → Passes x ≡ Passes y → x ≡ y
 unfolding passed_or
 same_passed x y h = ap (passed_or x) h
 
-no_passes : {A : Type 0} (x : A) (code : Code) (at : Place) (shown : List ℕ) → Passes x ≡ Refuses code at shown → ⊥
+pub no_passes : {A : Type 0} (x : A) (code : Code) (at : Place) (shown : List ℕ) → Passes x ≡ Refuses code at shown → ⊥
 no_passes x code at shown h = cc
 
 -- a part whose result is taken on, and what is next
@@ -108,58 +110,30 @@ unfolding bind
 taken_stop (Passes x) f next code at shown h = absurd (no_passes (f x) code at shown h)
 taken_stop (Refuses c p t) f next code at shown h = ap (λ g. bind g (λ x. Refuses code at shown)) h
 
-pub args_step : (a : Arg) (more : List Arg) (sc : Scope) (types : Types) (around : Option (List ℕ)) (n m : ℕ) → args_typed (args_view (a ∷ [])) sc types around n ≡ Passes m → args_typed (args_view (a ∷ more)) sc types around n ≡ args_typed (args_view more) sc types around m
-args_step a more sc types around n m h = by (arg_view a) h
+pub args_step : (a : Arg) (more : List Arg) (sc : Scope) (types : Types) (around : Option (List ℕ)) (p q : List Ty × ℕ) → args_typed (args_view (a ∷ [])) sc types around p ≡ Passes q → args_typed (args_view (a ∷ more)) sc types around p ≡ args_typed (args_view more) sc types around q
+args_step a more sc types around p q h = by (arg_view a) h
   where
-    by : (o : Option Exp) → args_typed (args_of (o ∷ [])) sc types around n ≡ Passes m → args_typed (args_of (o ∷ map arg_view more)) sc types around n ≡ args_typed (args_view more) sc types around m
-    by None h = ap (args_typed (args_view more) sc types around) (same_passed n m h)
-    by (Some e) h = taken_on (typed e sc types around n) (λ r. r.1) m (args_typed (args_view more) sc types around) h
+    by : (o : Option Exp) → args_typed (args_of (o ∷ [])) sc types around p ≡ Passes q → args_typed (args_of (o ∷ map arg_view more)) sc types around p ≡ args_typed (args_view more) sc types around q
+    by None h = ap (args_typed (args_view more) sc types around) (same_passed (p.0 ++ (OtherTy ∷ []), p.1) q h)
+    by (Some e) h = taken_on (typed e sc types around p.1) (λ r. (p.0 ++ (r.0 ∷ []), r.1)) q (args_typed (args_view more) sc types around) h
 
-pub args_stop : {R S : Type 0} (s : Stop Refusal) (view : R → ℕ) (whole : S → ℕ) (a : Arg) (more : List Arg) (sc : Scope) (types : Types) (around : Option (List ℕ)) (n : ℕ) → Tells {R = R} (Err s) view (args_typed (args_view (a ∷ [])) sc types around n) → Tells {R = S} (Err s) whole (args_typed (args_view (a ∷ more)) sc types around n)
-args_stop stop.Memory view whole a more sc types around n h = tt
-args_stop (stop.Refused r) view whole a more sc types around n h = by (arg_view a) h
+pub args_stop : {R S : Type 0} (s : Stop Refusal) (view : R → List Ty × ℕ) (whole : S → List Ty × ℕ) (a : Arg) (more : List Arg) (sc : Scope) (types : Types) (around : Option (List ℕ)) (p : List Ty × ℕ) → Tells {R = R} (Err s) view (args_typed (args_view (a ∷ [])) sc types around p) → Tells {R = S} (Err s) whole (args_typed (args_view (a ∷ more)) sc types around p)
+args_stop stop.Memory view whole a more sc types around p h = tt
+args_stop (stop.Refused r) view whole a more sc types around p h = by (arg_view a) h
   where
-    by : (o : Option Exp) → args_typed (args_of (o ∷ [])) sc types around n ≡ Refuses r.code r.place r.shown → args_typed (args_of (o ∷ map arg_view more)) sc types around n ≡ Refuses r.code r.place r.shown
-    by None h = absurd (no_passes n r.code r.place r.shown h)
-    by (Some e) h = taken_stop (typed e sc types around n) (λ r. r.1) (λ r. args_typed (args_view more) sc types around r.1) r.code r.place r.shown h
+    by : (o : Option Exp) → args_typed (args_of (o ∷ [])) sc types around p ≡ Refuses r.code r.place r.shown → args_typed (args_of (o ∷ map arg_view more)) sc types around p ≡ Refuses r.code r.place r.shown
+    by None h = absurd (no_passes (p.0 ++ (OtherTy ∷ []), p.1) r.code r.place r.shown h)
+    by (Some e) h = taken_stop (typed e sc types around p.1) (λ r. (p.0 ++ (r.0 ∷ []), r.1)) (λ r. args_typed (args_view more) sc types around (p.0 ++ (r.0 ∷ []), r.1)) r.code r.place r.shown h
 
 -- an expression alone as the arguments
-pub item_told : (a : Arg) (e : Expr) (sc : Scope) (types : Types) (around : Option (List ℕ)) (n : ℕ) (x : Typed) → a ≡ arg.Item e → typed (expr_view e) sc types around n ≡ Passes x → args_typed (args_view (a ∷ [])) sc types around n ≡ Passes x.1
-item_told a e sc types around n x h p =
-    ap (λ l. args_typed l sc types around n) (item_view a e h) ∙ passed (typed (expr_view e) sc types around n) x (λ r. Passes r.1) p
+pub item_told : (a : Arg) (e : Expr) (sc : Scope) (types : Types) (around : Option (List ℕ)) (p : List Ty × ℕ) (x : Typed) → a ≡ arg.Item e → typed (expr_view e) sc types around p.1 ≡ Passes x → args_typed (args_view (a ∷ [])) sc types around p ≡ Passes (p.0 ++ (x.0 ∷ []), x.1)
+item_told a e sc types around p x h q =
+    ap (λ l. args_typed l sc types around p) (item_view a e h) ∙ passed (typed (expr_view e) sc types around p.1) x (λ r. Passes (p.0 ++ (r.0 ∷ []), r.1)) q
 
-pub item_stop : {R S : Type 0} (s : Stop Refusal) (view : R → Typed) (whole : S → ℕ) (a : Arg) (e : Expr) (sc : Scope) (types : Types) (around : Option (List ℕ)) (n : ℕ) → a ≡ arg.Item e → Tells {R = R} (Err s) view (typed (expr_view e) sc types around n) → Tells {R = S} (Err s) whole (args_typed (args_view (a ∷ [])) sc types around n)
-item_stop s view whole a e sc types around n h t =
-    subst (λ l. Tells (Err s) whole (args_typed l sc types around n)) (sym (item_view a e h)) (part_tells s view whole (typed (expr_view e) sc types around n) (λ r. Passes r.1) t)
+pub item_stop : {R S : Type 0} (s : Stop Refusal) (view : R → Typed) (whole : S → List Ty × ℕ) (a : Arg) (e : Expr) (sc : Scope) (types : Types) (around : Option (List ℕ)) (p : List Ty × ℕ) → a ≡ arg.Item e → Tells {R = R} (Err s) view (typed (expr_view e) sc types around p.1) → Tells {R = S} (Err s) whole (args_typed (args_view (a ∷ [])) sc types around p)
+item_stop s view whole a e sc types around p h t =
+    subst (λ l. Tells (Err s) whole (args_typed l sc types around p)) (sym (item_view a e h)) (part_tells s view whole (typed (expr_view e) sc types around p.1) (λ r. Passes (p.0 ++ (r.0 ∷ []), r.1)) t)
 
--- ---- calls
-
--- how many arguments there are
-count_of : (os : List (Option Exp)) → args_count (args_of os) ≡ length os
-count_of [] = refl
-count_of (None ∷ os) = ap suc (count_of os)
-count_of (Some e ∷ os) = ap suc (count_of os)
-
--- what is told of subscripts or arguments that aren't a single one
-pub many_told : (xs : List Arg) (at : Place) (name : List ℕ) (opens : Place) (sc : Scope) (types : Types) (around : Option (List ℕ)) (n : ℕ) → (length xs ≡ 1 → ⊥) → typed (Apply at name opens (args_view xs)) sc types around n ≡ bind (args_typed (args_view xs) sc types (inside sc name around) n) (λ m. apply_typed sc types at name (length xs))
-many_told [] at name opens sc types around n h = refl
-many_told (a ∷ []) at name opens sc types around n h = absurd (h refl)
-many_told (a ∷ b ∷ more) at name opens sc types around n h = by (arg_view a) (arg_view b)
-  where
-    os : List (Option Exp)
-    os = map arg_view more
-
-    count : args_count (args_of os) ≡ length more
-    count = count_of os ∙ length-map more arg_view
-
-    by : (x y : Option Exp) → typed (Apply at name opens (args_of (x ∷ y ∷ os))) sc types around n ≡ bind (args_typed (args_of (x ∷ y ∷ os)) sc types (inside sc name around) n) (λ m. apply_typed sc types at name (suc (suc (length more))))
-    by None None = ap (λ k. bind (args_typed (args_of (None ∷ None ∷ os)) sc types (inside sc name around) n) (λ m. apply_typed sc types at name (suc (suc k)))) count
-    by None (Some f) = ap (λ k. bind (args_typed (args_of (None ∷ Some f ∷ os)) sc types (inside sc name around) n) (λ m. apply_typed sc types at name (suc (suc k)))) count
-    by (Some e) None = ap (λ k. bind (args_typed (args_of (Some e ∷ None ∷ os)) sc types (inside sc name around) n) (λ m. apply_typed sc types at name (suc (suc k)))) count
-    by (Some e) (Some f) = ap (λ k. bind (args_typed (args_of (Some e ∷ Some f ∷ os)) sc types (inside sc name around) n) (λ m. apply_typed sc types at name (suc (suc k)))) count
-
--- a list of one element
-pub only_one : {A : Type 0} (xs : List A) (x d : A) → length xs ≡ 1 → x ≡ get_or xs 0 d → xs ≡ x ∷ []
-only_one [] x d h e = absurd (omega (arith, h))
-only_one (y ∷ []) x d h e = ap (λ z. z ∷ []) (sym e)
-only_one (y ∷ z ∷ ys) x d h e = absurd (omega (arith, h))
+-- `:` alone as the arguments
+pub colon_told : (a : Arg) (sc : Scope) (types : Types) (around : Option (List ℕ)) (p : List Ty × ℕ) → a ≡ arg.All → args_typed (args_view (a ∷ [])) sc types around p ≡ Passes (p.0 ++ (OtherTy ∷ []), p.1)
+colon_told a sc types around p h = ap (λ l. args_typed l sc types around p) (all_view a h)

@@ -21,7 +21,7 @@ impl Emitted {
     ghost use Rattle.std.specs.Prelude.{◌≡◌, ◌<◌, ◌≤◌, ◌*◌, ◌++◌, ◌∷◌, [], length, map, OnOk, IfOk, nat_lt, ◌+◌, if◌then◌else◌, ◌^◌};
     ghost use Rattle.c_tree.specs.View.{expr_view, stmt_view};
     ghost use Rattle.c_tree.specs.Tree.{Set};
-    ghost use Rattle.scalar_walk.specs.Lowered.{nothing_emitted};
+    ghost use Rattle.scalar_program.specs.Lowered.{nothing_emitted};
     ghost use Rattle.scalar_walk.specs.View.{emitted_view};
 
     /// Nothing emitted, and no node walked.

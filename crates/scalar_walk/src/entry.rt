@@ -1,23 +1,24 @@
 //! The program of an entry.
 
-ghost use Rattle.walk_scope.specs.Scope as scoped;
+ghost use Rattle.fi_rules.specs.Texts.{counts_text};
 ghost use Rattle.std.specs.Prelude.{◌≡◌, ◌<◌, ◌^◌, ◌++◌, ◌∷◌, [], length, nat_eq, IfOk, OnOk, Some, map};
 ghost use Rattle.fic_base.specs.declared.code.Code.TheVariants as code;
 ghost use Rattle.num_type.specs.View.{type_of};
 ghost use Rattle.mat_ast.specs.View.{func_view};
 ghost use Rattle.c_tree.specs.View.{program_view, slot_view, stmt_view};
-ghost use Rattle.scalar_walk.specs.Lowered.{IsFunctionLowered, inputs_from, no_names, real_slots, stores_from, program_of};
-ghost use Rattle.scalar_walk.specs.Right.{IsRight};
+ghost use Rattle.scalar_program.specs.Lowered.{IsFunctionLowered, inputs_from, no_names, real_slots, stores_from, program_of};
+ghost use Rattle.scalar_program.specs.Right.{IsRight};
 ghost use Rattle.walk_scope.specs.Told.{Passes, Refuses, choose};
 ghost use Rattle.scalar_walk.specs.Walk as walk;
 ghost use Rattle.walk_scope.specs.View.{Tells, scope_view};
 ghost use Rattle.scalar_walk.specs.View.{TellsTypes, names_view, operand_view, emitted_view};
 
 use crate::emitted::Emitted;
-use crate::operand::{Operand, Spot, read};
+use crate::operand::{Held, Operand, Spot, read};
 use crate::statements::{lower_block, lower_outputs};
 use crate::variables::Variables;
 use c_tree::{CArray, CKind, CSlot, CStmt, CTree, Interface};
+use fi_rules::Ty;
 use fic_base::{Refusal, Text};
 use mat_ast::{Func, Ident};
 use num_type::{Memory, NumType, Stop};
@@ -54,7 +55,7 @@ pub fn lower_function(
 // There are as many types as inputs.
 #[tactic(auto, using(walk_scope::proofs::Tell::stop_tells), unfolding(walk_scope::specs::Told::choose))]
 fn check_count(alloc: Global, f: &Func, types: &[NumType]) -> Result<(), Stop<Refusal>>
-    ensures told { Tells result (λ u. length types.now) (choose (nat_eq (length types.now) (length f.now.inputs)) (Passes (length types.now)) (Refuses code.ArgCount f.now.name.place (scoped.counts_text (length types.now) (length f.now.inputs)))) }
+    ensures told { Tells result (λ u. length types.now) (choose (nat_eq (length types.now) (length f.now.inputs)) (Passes (length types.now)) (Refuses code.ArgCount f.now.name.place (counts_text (length types.now) (length f.now.inputs)))) }
     ensures counts { IfOk result (λ u. length types.now ≡ length f.now.inputs) }
 {
     let want = f.inputs.as_slice().len();
@@ -76,11 +77,11 @@ fn set_inputs(
 {
     let count = inputs.len().min(types.len());
     for k in 0..count {
-        let operand = Operand {
+        let held = Held {
             spot: Spot::Input(number(k)?),
-            num: types[k],
+            ty: Ty::Fi(types[k], None),
         };
-        names.set(alloc, inputs[k].text.as_bytes(), operand)?;
+        names.set(alloc, inputs[k].text.as_bytes(), held)?;
     }
     Ok(())
 }

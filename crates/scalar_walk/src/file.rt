@@ -9,9 +9,9 @@ ghost use Rattle.fi_eval.specs.Meaning.{function_named};
 ghost use Rattle.c_tree.specs.View.{program_view};
 ghost use Rattle.walk_scope.specs.Shown.{text_at};
 ghost use Rattle.scalar_walk.specs.Walk.{walked};
-ghost use Rattle.scalar_walk.specs.Lowered.{real_slots};
-ghost use Rattle.scalar_walk.specs.Right.{HasNames};
-ghost use Rattle.scalar_walk.specs.Correspondence.{IsProgramOf};
+ghost use Rattle.scalar_program.specs.Lowered.{real_slots};
+ghost use Rattle.scalar_program.specs.Right.{HasNames};
+ghost use Rattle.scalar_program.specs.Correspondence.{IsProgramOf};
 ghost use Rattle.scalar_walk.specs.View.{TellsTypes};
 
 use crate::entry::lower_function;

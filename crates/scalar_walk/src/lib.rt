@@ -1,11 +1,14 @@
 //! Types and lowers functions of scalar assignments.
 #![tactic(auto)]
 
+mod arguments;
+mod calls;
 mod emitted;
 mod entry;
 mod file;
 #[cfg(test)]
 mod file_tests;
+mod leaves;
 mod operand;
 #[cfg(test)]
 mod operation_tests;
@@ -14,6 +17,7 @@ mod results;
 mod statements;
 #[cfg(test)]
 mod tests;
+mod turns;
 mod variables;
 mod walk;
 

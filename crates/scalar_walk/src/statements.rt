@@ -5,20 +5,23 @@ ghost use Rattle.fic_base.specs.declared.code.Code.TheVariants as code;
 ghost use Rattle.num_type.specs.View.{type_of};
 ghost use Rattle.mat_ast.specs.View.{expr_view, stmt_view, block_view};
 ghost use Rattle.mat_ast.specs.Tree.{Assign};
-ghost use Rattle.scalar_walk.specs.Lowered.{IsStaLowered, IsBlockLowered, outputs_lowered};
+ghost use Rattle.fi_rules.specs.Texts.{ty_text};
+ghost use Rattle.fi_rules.specs.View.{ty_view};
+ghost use Rattle.scalar_program.specs.Lowered.{IsStaLowered, IsBlockLowered, and_then, output_of, outputs_lowered, with_type};
 ghost use Rattle.fi_eval.specs.Meaning.{first_place, place_of};
 ghost use Rattle.scalar_walk.specs.Walk as walk;
 ghost use Rattle.walk_scope.specs.View.{Tells, IsStop, scope_view};
-ghost use Rattle.scalar_walk.specs.View.{AreBelow, names_view, types_view, walked_view, operand_view, emitted_view, behind_view};
+ghost use Rattle.scalar_walk.specs.View.{AreBelow, names_view, types_view, walked_view, held_view, operand_view, emitted_view, behind_view};
 
 use crate::emitted::Emitted;
-use crate::operand::Operand;
+use crate::operand::{Held, Operand};
 use crate::variables::Variables;
 use crate::walk::lower_expr;
+use fi_rules::{Ty, is_same};
 use fic_base::{Code, Place, Refusal};
 use mat_ast::{Expr, Ident, Stmt};
-use num_type::{Memory, NumType, Stop};
-use shape_rules::{Declared, Shape, write_type};
+use num_type::{Memory, Stop};
+use rule_texts::put_type;
 use std::alloc::Global;
 use walk_scope::{Scope, refused, unbuilt};
 
@@ -93,44 +96,59 @@ fn lower_assign(
     ensures low { OnOk result (IsStaLowered (Assign name.now (expr_view value.now)) (scope_view scope.now).context (names_view names.old) (emitted_view out.old) (behind_view names.new out.new)) }
     ensures below { OnOk result (AreBelow (names_view names.new) (length out.new.words)) }
 {
-    let operand = lower_expr(value, alloc, scope, names, None, out)?;
-    keep_type(alloc, name, names, operand.num)?;
-    names.set(alloc, name.text.as_bytes(), operand)?;
+    let held = lower_expr(value, alloc, scope, names, None, out)?;
+    assign_type(alloc, name, names, &held.ty)?;
+    names.set(alloc, name.text.as_bytes(), held)?;
     Ok(())
 }
 
+// No text is assigned, and a variable keeps its type after its first assignment.
+#[tactic(auto, using(walk_scope::proofs::Tell::stop_tells), unfolding(walk_scope::specs::Told::choose))]
+fn assign_type(alloc: Global, name: &Ident, names: &Variables, ty: &Ty) -> Result<(), Stop<Refusal>>
+    ensures told { (n : ℕ) → Tells result (λ u. record { types = with_type (types_view names.now) name.now.text (ty_view ty.now); nodes = n }) (walk.assigned name.now (types_view names.now) (ty_view ty.now, n) (types_view names.now name.now.text)) }
+{
+    if is_text(ty) {
+        Err(refused(alloc, Code::FloatOperand, name.place, name.text.as_bytes()))
+    } else {
+        keep_type(alloc, name, names, ty)
+    }
+}
+
+// Whether a value is a text.
+#[tactic(auto, unfolding(crate::specs::Walk::is_text))]
+fn is_text(ty: &Ty) -> bool
+    ensures { result ≡ walk.is_text (ty_view ty.now) }
+{
+    match ty {
+        Ty::Words(_) => true,
+        Ty::Fi(_, _) => false,
+        Ty::Number(_) => false,
+        Ty::Math(_) => false,
+        Ty::Type(_) => false,
+        Ty::Other => false,
+    }
+}
+
 // A variable keeps its type after its first assignment.
-#[tactic(auto, using(walk_scope::proofs::Tell::stop_tells), unfolding(walk_scope::specs::Told::choose, crate::specs::Walk::assigned))]
-fn keep_type(
-    alloc: Global,
-    name: &Ident,
-    names: &Variables,
-    num: NumType,
-) -> Result<(), Stop<Refusal>>
-    ensures told { (n : ℕ) → Tells result (λ u. record { types = walk.with_type (types_view names.now) name.now.text (type_of num); nodes = n }) (walk.assigned name.now (types_view names.now) (type_of num, n) (types_view names.now name.now.text)) }
+#[tactic(auto, using(walk_scope::proofs::Tell::stop_tells), unfolding(walk_scope::specs::Told::choose, crate::specs::Walk::kept))]
+fn keep_type(alloc: Global, name: &Ident, names: &Variables, ty: &Ty) -> Result<(), Stop<Refusal>>
+    ensures told { (n : ℕ) → Tells result (λ u. record { types = with_type (types_view names.now) name.now.text (ty_view ty.now); nodes = n }) (walk.kept name.now (types_view names.now) (ty_view ty.now, n) (types_view names.now name.now.text)) }
 {
     match names.get(name.text.as_bytes()) {
         Some(old) => {
-            if is_same(num, old.num) {
+            if is_same(ty, &old.ty) {
                 Ok(())
             } else {
-                Err(type_change(alloc, name, num, old.num))
+                Err(type_change(alloc, name, ty, &old.ty))
             }
         }
         None => Ok(()),
     }
 }
 
-// Whether two types are the same.
-fn is_same(a: NumType, b: NumType) -> bool
-    ensures { result ≡ walk.same_type (type_of a) (type_of b) }
-{
-    a.signed() == b.signed() && a.word() == b.word() && a.fraction() == b.fraction()
-}
-
 // The refusal of another type for a variable.
-fn type_change(alloc: Global, name: &Ident, new: NumType, old: NumType) -> Stop<Refusal>
-    ensures { IsStop result code.TypeChange name.now.place (walk.scalar_text (type_of new) ++ codes " into " ++ walk.scalar_text (type_of old)) }
+fn type_change(alloc: Global, name: &Ident, new: &Ty, old: &Ty) -> Stop<Refusal>
+    ensures { IsStop result code.TypeChange name.now.place (ty_text (ty_view new.now) ++ codes " into " ++ ty_text (ty_view old.now)) }
 {
     match change_text(alloc, new, old) {
         Ok(text) => refused(alloc, Code::TypeChange, name.place, text.as_slice()),
@@ -138,28 +156,17 @@ fn type_change(alloc: Global, name: &Ident, new: NumType, old: NumType) -> Stop<
     }
 }
 
-fn change_text(alloc: Global, new: NumType, old: NumType) -> Result<Vec<u8>, Memory>
-    ensures { IfOk result (λ v. v.items ≡ walk.scalar_text (type_of new) ++ codes " into " ++ walk.scalar_text (type_of old)) }
+fn change_text(alloc: Global, new: &Ty, old: &Ty) -> Result<Vec<u8>, Memory>
+    ensures { IfOk result (λ v. v.items ≡ ty_text (ty_view new.now) ++ codes " into " ++ ty_text (ty_view old.now)) }
 {
     let mut text = Vec::new(alloc);
-    put_scalar(&mut text, new)?;
+    put_type(new, &mut text)?;
     text.extend_from_slice(b" into ")?;
-    put_scalar(&mut text, old)?;
+    put_type(old, &mut text)?;
     Ok(text)
 }
 
-fn put_scalar(text: &mut Vec<u8>, num: NumType) -> Result<(), Memory>
-    ensures { OnOk result (text.new.items ≡ text.old.items ++ walk.scalar_text (type_of num)) }
-{
-    let declared = Declared {
-        num,
-        complex: false,
-        shape: Shape::scalar(),
-    };
-    write_type(&declared, text)
-}
-
-/// The values of the outputs. Refused exactly at an output without a value; want of memory is the free answer.
+/// The values of the outputs. Refused exactly at an output without a value, or with one that is no fi; want of memory is the free answer.
 pub fn lower_outputs(
     outputs: &[Ident],
     alloc: Global,
@@ -170,10 +177,46 @@ pub fn lower_outputs(
 {
     let mut values = Vec::new(alloc);
     for o in outputs {
-        match names.get(o.text.as_bytes()) {
-            Some(operand) => values.push(operand)?,
-            None => return Err(refused(alloc, Code::NotAssigned, o.place, o.text.as_bytes())),
-        }
+        let operand = lower_output(alloc, o, names)?;
+        values.push(operand)?;
     }
     Ok(values)
+}
+
+// The value of an output.
+#[tactic(auto, using(walk_scope::proofs::Tell::stop_tells, walk_scope::proofs::Tell::part_tells), unfolding(walk_scope::specs::Told::bind, crate::specs::Walk::known, scalar_program::specs::Lowered::and_then))]
+fn lower_output(alloc: Global, o: &Ident, names: &Variables) -> Result<Operand, Stop<Refusal>>
+    ensures told { Tells result (λ x. type_of x.num) (walk.output_typed o.now (types_view names.now)) }
+    ensures low { IfOk result (λ x. and_then (names_view names.now o.now.text) output_of ≡ Some (operand_view x)) }
+{
+    match names.get(o.text.as_bytes()) {
+        Some(held) => operand_of(alloc, o, held),
+        None => Err(refused(alloc, Code::NotAssigned, o.place, o.text.as_bytes())),
+    }
+}
+
+// A fi as an output.
+#[tactic(auto, using(walk_scope::proofs::Tell::stop_tells), unfolding(crate::specs::Walk::output_told, scalar_program::specs::Lowered::fi_operand))]
+fn operand_of(alloc: Global, o: &Ident, held: &Held) -> Result<Operand, Stop<Refusal>>
+    ensures told { Tells result (λ x. type_of x.num) (walk.output_told o.now (ty_view held.now.ty)) }
+    ensures low { IfOk result (λ x. output_of (held_view held.now) ≡ Some (operand_view x)) }
+{
+    match &held.ty {
+        Ty::Fi(num, _) => Ok(Operand {
+            spot: held.spot,
+            num: *num,
+        }),
+        Ty::Number(_) => Err(no_output(alloc, o)),
+        Ty::Words(_) => Err(no_output(alloc, o)),
+        Ty::Math(_) => Err(no_output(alloc, o)),
+        Ty::Type(_) => Err(no_output(alloc, o)),
+        Ty::Other => Err(no_output(alloc, o)),
+    }
+}
+
+// The refusal of an output that is no fi.
+fn no_output(alloc: Global, o: &Ident) -> Stop<Refusal>
+    ensures { IsStop result code.FloatOperand o.now.place o.now.text }
+{
+    refused(alloc, Code::FloatOperand, o.place, o.text.as_bytes())
 }

@@ -1,11 +1,11 @@
 //! The variables of a function that have a value.
 
 ghost use Rattle.std.specs.Prelude.{◌≡◌, OnOk, option_map};
-ghost use Rattle.scalar_walk.specs.Walk.{with_type};
-ghost use Rattle.scalar_walk.specs.Lowered.{no_names};
-ghost use Rattle.scalar_walk.specs.View.{names_view, operand_view};
+ghost use Rattle.scalar_program.specs.Lowered.{with_type};
+ghost use Rattle.scalar_program.specs.Lowered.{no_names};
+ghost use Rattle.scalar_walk.specs.View.{names_view, held_view};
 
-use crate::operand::Operand;
+use crate::operand::Held;
 use num_type::Memory;
 use std::alloc::Global;
 use std::collections::HashMap;
@@ -13,7 +13,7 @@ use std::collections::HashMap;
 /// The variables that have a value, of which one is found in a time that doesn't grow with their number.
 #[derive(Drop)]
 pub struct Variables {
-    table: HashMap<Vec<u8>, Operand>,
+    table: HashMap<Vec<u8>, Held>,
 }
 
 impl Variables {
@@ -27,21 +27,18 @@ impl Variables {
     }
 
     /// The value of a variable. None exactly where it has none.
-    pub fn get(&self, name: &[u8]) -> Option<Operand>
-        ensures { option_map operand_view result ≡ names_view self.now name.now }
+    pub fn get(&self, name: &[u8]) -> Option<&Held>
+        ensures { option_map (λ h. held_view h.now) result ≡ names_view self.now name.now }
     {
-        match self.table.get(name) {
-            Some(operand) => Some(*operand),
-            None => None,
-        }
+        self.table.get(name)
     }
 
     /// Gives a variable this value. Want of memory is the only refusal.
-    pub fn set(&mut self, alloc: Global, name: &[u8], operand: Operand) -> Result<(), Memory>
-        ensures { OnOk result (names_view self.new ≡ with_type (names_view self.old) name.now (operand_view operand)) }
+    pub fn set(&mut self, alloc: Global, name: &[u8], held: Held) -> Result<(), Memory>
+        ensures { OnOk result (names_view self.new ≡ with_type (names_view self.old) name.now (held_view held)) }
     {
         let key = Vec::from_slice(alloc, name)?;
-        let Ok(_) = self.table.insert(key, operand) else {
+        let Ok(_) = self.table.insert(key, held) else {
             return Err(Memory);
         };
         Ok(())

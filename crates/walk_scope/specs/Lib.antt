@@ -5,3 +5,4 @@ pub mod Shown
 pub mod Scope
 pub mod Headers
 pub mod View
+pub mod Rules

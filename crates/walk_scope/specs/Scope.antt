@@ -1,9 +1,9 @@
 -- What stays the same over a function that is walked, and the refusals that rest on it alone.
-use Rattle.std.specs.Prelude.{ℕ, ◌||◌, nat_eq, List, ◌++◌, codes, decimal}
+use Rattle.std.specs.Prelude.{ℕ, ◌||◌, List}
 use Rattle.fic_base.specs.declared.code.Code.TheVariants as code
 use Rattle.fic_base.specs.declared.place.Place.{Place}
 use Rattle.mat_ast.specs.Tree.{Fun}
-use Rattle.fi_eval.specs.Meaning.{Context, is_abs, context_of}
+use Rattle.fi_eval.specs.Meaning.{Context, context_of}
 use Rattle.walk_scope.specs.Told.{Told, Refuses, when◌then◌else◌}
 use Rattle.walk_scope.specs.Names.{divisions, supported, unsupported, is_listed}
 
@@ -24,15 +24,5 @@ other_name sc at name =
     then Refuses code.Unsupported at name
     else (when is_listed name divisions then Refuses code.Division at name else Refuses code.UnknownName at name)
 
-abbrev pub counts_text : ℕ → ℕ → List ℕ
-counts_text have want = decimal have ++ codes " for " ++ decimal want
-
 abbrev pub scope_of : (Place → List ℕ) → List Fun → Fun → Scope
 scope_of shown fs f = record { context = context_of fs f; shown = shown }
-
--- a call that isn't that of a variable, with so many arguments, where there is no built-in for it
-abbrev pub call_refused : {A : Type 0} → Scope → Place → List ℕ → ℕ → Told A
-call_refused sc at name count =
-    when is_abs sc.context name
-    then (when nat_eq count 1 then Refuses code.BadArgument at name else Refuses code.ArgCount at (counts_text count 1))
-    else other_name sc at name

@@ -10,6 +10,9 @@ use Rattle.walk_scope.specs.declared.scope.Scope as code_scope
 use Rattle.walk_scope.specs.NameSets.{names_in}
 use Rattle.walk_scope.specs.Scope.{Scope}
 use Rattle.walk_scope.specs.Shown.{text_at}
+use Rattle.fi_rules.specs.declared.missing.Missing.{Missing}
+use Rattle.fi_rules.specs.Texts.{Around, shown_text}
+use Rattle.fi_rules.specs.View.{shown_view}
 use Rattle.walk_scope.specs.Told.{Told, Passes, Refuses}
 
 -- an answer of the code says what is told, unless memory is wanting
@@ -30,3 +33,8 @@ IsStop (stop.Refused r) code at shown = (r.code ≡ code) × (r.place ≡ at) ×
 abbrev pub StopTells : {A : Type 0} → Stop Refusal → Told A → Type 0
 StopTells stop.Memory told = Unit {0}
 StopTells (stop.Refused r) told = told ≡ Refuses r.code r.place r.shown
+
+-- a rule's answer at a place: its result, or a stop of its first missing condition
+abbrev pub RuleAnswers : {R : Type 0} → Result R (Stop Refusal) → Result R Missing → Place → Around → Type 0
+RuleAnswers (Ok x) rule at around = rule ≡ Ok x
+RuleAnswers (Err s) rule at around = (m : Missing) × (rule ≡ Err m) × IsStop s m.code at (shown_text around (shown_view m.shown))

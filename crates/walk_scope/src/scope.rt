@@ -1,6 +1,7 @@
 //! What stays the same while a function is walked, and the refusals of its nodes.
 
 ghost use Rattle.walk_scope.specs.Scope as scoped;
+ghost use Rattle.fi_rules.specs.Texts as texts;
 ghost use Rattle.std.specs.Prelude.{◌≡◌, IfOk, decimal, take, drop, None, Some};
 ghost use Rattle.std.specs.Fmt.{signed_decimal};
 ghost use Rattle.fic_base.specs.declared.code.Code.TheVariants as code;
@@ -43,11 +44,11 @@ pub fn is_function(scope: &Scope<'_>, name: &[u8]) -> bool
     scope.functions.contains(name)
 }
 
-/// Whether a name called is the built-in function `abs`: a variable or a function of the file goes before it.
-pub fn is_abs(scope: &Scope<'_>, name: &[u8]) -> bool
-    ensures { result ≡ meaning.is_abs (scope_view scope.now).context name.now }
+/// Whether a name called may be that of a built-in function: a variable or a function of the file goes before it.
+pub fn is_free(scope: &Scope<'_>, name: &[u8]) -> bool
+    ensures { result ≡ meaning.is_free (scope_view scope.now).context name.now }
 {
-    name == b"abs".as_slice() && !(is_variable(scope, name) || is_function(scope, name))
+    !(is_variable(scope, name) || is_function(scope, name))
 }
 
 // Whether tokens of a kind have a text.
@@ -135,7 +136,7 @@ pub fn fraction_out(alloc: Global, at: Place, fraction: i32) -> Stop<Refusal>
 
 /// The refusal of another number of types or arguments than is wanted.
 pub fn arg_count(alloc: Global, at: Place, have: usize, want: usize) -> Stop<Refusal>
-    ensures { IsStop result code.ArgCount at (scoped.counts_text have want) }
+    ensures { IsStop result code.ArgCount at (texts.counts_text have want) }
 {
     match counts_text(alloc, have, want) {
         Ok(text) => refused(alloc, Code::ArgCount, at, text.as_slice()),
@@ -144,7 +145,7 @@ pub fn arg_count(alloc: Global, at: Place, have: usize, want: usize) -> Stop<Ref
 }
 
 fn counts_text(alloc: Global, have: usize, want: usize) -> Result<Vec<u8>, Memory>
-    ensures { IfOk result (λ v. v.items ≡ scoped.counts_text have want) }
+    ensures { IfOk result (λ v. v.items ≡ texts.counts_text have want) }
 {
     let have = have.to_string(alloc)?;
     let want = want.to_string(alloc)?;

@@ -8,8 +8,8 @@ use Rattle.c_tree.specs.declared.tree.CTree.{CTree}
 use Rattle.c_tree.specs.View.{program_view}
 use Rattle.walk_scope.specs.Shown.{text_at}
 use Rattle.scalar_walk.specs.Walk.{walked}
-use Rattle.scalar_walk.specs.Lowered.{real_slots}
-use Rattle.scalar_walk.specs.Correspondence.{IsProgramOf}
+use Rattle.scalar_program.specs.Lowered.{real_slots}
+use Rattle.scalar_program.specs.Correspondence.{IsProgramOf}
 use Rattle.fi_cli.specs.Source.{num_types}
 use Rattle.fi_cli.proofs.Sources.{compiled, walk_refused, told_refusal}
 use Rattle.fi_cli.proofs.source.compile_funcs.Goals as goal

@@ -7,14 +7,14 @@ use Rattle.num_type.specs.View.{type_of}
 use Rattle.mat_ast.specs.View.{func_view, block_view}
 use Rattle.c_tree.specs.View.{program_view}
 use Rattle.c_tree.specs.declared.tree.CTree.{CTree}
-use Rattle.scalar_walk.specs.Lowered.{Emitted, IsBlockLowered, inputs_from, no_names, outputs_lowered, program_of}
+use Rattle.scalar_program.specs.Lowered.{Emitted, IsBlockLowered, inputs_from, no_names, outputs_lowered, program_of}
 use Rattle.walk_scope.specs.Told.{Refuses, bind, choose}
 use Rattle.scalar_walk.specs.Walk.{block_walked, outputs_typed}
-use Rattle.walk_scope.specs.Scope.{counts_text}
+use Rattle.fi_rules.specs.Texts.{counts_text}
 use Rattle.walk_scope.specs.View.{Tells, scope_view}
 use Rattle.scalar_walk.specs.View.{TellsTypes, AreBelow, names_view, emitted_view, operand_view, behind_view, walked_view}
 use Rattle.scalar_walk.proofs.Functions.{start_of, wrong_count, starts, body_refused, outputs_refused, function_passes}
-use Rattle.scalar_walk.proofs.Whole.{program_right, all_within}
+use Rattle.scalar_program.proofs.Whole.{program_right, all_within}
 use Rattle.scalar_walk.proofs.Lows.{function_low, inputs_below, none_below}
 use Rattle.scalar_walk.proofs.entry.lower_function.Goals as goal
 

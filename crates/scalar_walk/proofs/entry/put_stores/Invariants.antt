@@ -1,6 +1,6 @@
 use Rattle.std.proofs.Common.{◌≡◌, ◌++◌, drop, map}
 use Rattle.c_tree.specs.View.{stmt_view}
-use Rattle.scalar_walk.specs.Lowered.{stores_from}
+use Rattle.scalar_program.specs.Lowered.{stores_from}
 use Rattle.scalar_walk.specs.View.{operand_view}
 use Rattle.scalar_walk.proofs.entry.put_stores.Given as goal
 

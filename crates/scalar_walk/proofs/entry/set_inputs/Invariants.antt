@@ -1,6 +1,6 @@
 use Rattle.std.proofs.Common.{◌≡◌, drop, map}
 use Rattle.num_type.specs.View.{type_of}
-use Rattle.scalar_walk.specs.Lowered.{inputs_from}
+use Rattle.scalar_program.specs.Lowered.{inputs_from}
 use Rattle.scalar_walk.specs.View.{names_view}
 use Rattle.scalar_walk.proofs.entry.set_inputs.Given as goal
 

@@ -1,7 +1,7 @@
 use Rattle.std.proofs.Common.{◌+◌, drop, refl, sym, ap, subst, ◌∙◌, Err}
 use Rattle.std.proofs.lemmas.Result.{err_from_is_err_and}
 use Rattle.mat_ast.specs.View.{stmt_view, block_view}
-use Rattle.scalar_walk.specs.Lowered.{IsBlockLowered}
+use Rattle.scalar_program.specs.Lowered.{IsBlockLowered}
 use Rattle.scalar_walk.specs.Walk.{sta_walked, block_walked}
 use Rattle.walk_scope.specs.View.{Tells, scope_view}
 use Rattle.scalar_walk.specs.View.{names_view, emitted_view, behind_view, walked_view}

@@ -1,6 +1,6 @@
 use Rattle.std.proofs.Common.{◌≡◌, length, drop}
 use Rattle.mat_ast.specs.View.{block_view}
-use Rattle.scalar_walk.specs.Lowered.{Behind, IsBlockLowered}
+use Rattle.scalar_program.specs.Lowered.{Behind, IsBlockLowered}
 use Rattle.scalar_walk.specs.Walk.{block_walked}
 use Rattle.scalar_walk.specs.View.{AreBelow, names_view, emitted_view, walked_view}
 use Rattle.walk_scope.specs.View.{scope_view}

@@ -1,5 +1,5 @@
 use Rattle.std.proofs.Common.{◌≡◌, drop, map, ◌++◌, Some}
-use Rattle.scalar_walk.specs.Lowered.{outputs_lowered, and_then}
+use Rattle.scalar_program.specs.Lowered.{outputs_lowered, and_then}
 use Rattle.scalar_walk.specs.Walk.{outputs_typed}
 use Rattle.scalar_walk.specs.View.{names_view, types_view, operand_view}
 use Rattle.scalar_walk.proofs.Outputs.{more_typed}

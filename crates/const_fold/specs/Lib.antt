@@ -1,0 +1,3 @@
+pub mod Exponents
+pub mod Folds
+pub mod MatrixProducts

@@ -1,0 +1,13 @@
+//! What the operators between two constants make of them: sums, differences, products, matrix products and powers, exactly.
+#![tactic(auto)]
+
+mod binary;
+mod laws;
+mod matrix;
+mod power;
+mod refusals;
+#[cfg(test)]
+mod tests;
+
+pub use binary::fold_binary;
+pub use laws::refused_operators_make_nothing;

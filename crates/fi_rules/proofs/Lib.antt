@@ -1,0 +1,9 @@
+pub mod Numbers
+pub mod Stores
+pub mod Limited
+pub mod Paired
+pub mod Lengths
+pub mod Workings
+pub mod Meetings
+pub mod Taken
+pub mod Sameness

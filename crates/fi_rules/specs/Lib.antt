@@ -1,0 +1,12 @@
+pub mod Value
+pub mod Options
+pub mod Checked
+pub mod Types
+pub mod Pairs
+pub mod Signs
+pub mod Arguments
+pub mod Properties
+pub mod Calls
+pub mod Decimals
+pub mod Texts
+pub mod View
