@@ -1,0 +1,4 @@
+pub mod Patterns
+pub mod Moves
+pub mod Signs
+pub mod Sides

@@ -1,0 +1,13 @@
+-- Operations on complex elements that act on both parts alike.
+use Rattle.std.specs.Prelude.{ℕ, ℤ, ◌+◌, ◌-◌}
+use Rattle.fi_ops.specs.Elements.{Element}
+use Rattle.fi_ops.specs.Complex.{ComplexElement, real_of, imaginary_of}
+use Rattle.fi_ops.specs.Bits.{word_type, sliced}
+
+-- both parts of the same type as before
+unfoldable pub each_part : (Element → ℤ) → ComplexElement → ComplexElement
+each_part f a = record { num = a.num; re = f (real_of a); im = f (imaginary_of a) }
+
+-- the bits l down to r of both parts
+unfoldable pub each_sliced : ℕ → ℕ → ComplexElement → ComplexElement
+each_sliced l r a = record { num = word_type (l - r + 1); re = (sliced l r (real_of a)).z; im = (sliced l r (imaginary_of a)).z }

@@ -1,0 +1,3 @@
+pub mod Factors
+pub mod Accumulations
+pub mod Ranges
