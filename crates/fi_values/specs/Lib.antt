@@ -1,0 +1,16 @@
+pub mod Elements
+pub mod Shapes
+pub mod Numbers
+pub mod Subscripts
+pub mod Reads
+pub mod Stores
+pub mod Ranges
+pub mod Brackets
+pub mod Transposes
+pub mod Sums
+pub mod Arithmetic
+pub mod Products
+pub mod Comparisons
+pub mod Logicals
+pub mod Bits
+pub mod Queries

@@ -1,0 +1,2 @@
+//! Operations on values of every class and shape: definitions.
+#![tactic(auto)]
