@@ -1,5 +1,5 @@
 -- What values of the code stand for.
-use Rattle.std.specs.Prelude.{ℤ, map, Option, Some, None}
+use Rattle.std.specs.Prelude.{ℤ, List, map, Option, Some, None}
 use Rattle.std.specs.Global.{Vec}
 use Rattle.num_type.specs.View.{type_of, exact_of}
 use Rattle.num_type.specs.declared.dyadic.Dyadic.{Dyadic}
@@ -39,3 +39,12 @@ value_view (value.Number v) = number_view v
 value_view (value.Words text) = Words text
 value_view (value.Math m) = MathObject m
 value_view (value.Type t) = TypeObject (type_of t)
+
+-- an answer or an item of a list: none stays none
+abbrev pub item_view : Option Value → Option Val
+item_view None = None
+item_view (Some v) = Some (value_view v)
+
+-- the values of a row of a bracket
+abbrev pub row_view : Vec Value → List Val
+row_view r = map value_view r.items

@@ -1,1 +1,12 @@
 pub mod Bounds
+pub mod Names
+pub mod Alike
+pub mod SameBodies
+pub mod Added
+pub mod ShapesOperators
+pub mod ShapesCalls
+pub mod ShapesFunctions
+pub mod ShapesEnvironments
+pub mod ShapesExpressions
+pub mod ShapesStatements
+pub mod ShapesEntries

@@ -14,3 +14,4 @@ pub mod Comparisons
 pub mod Logicals
 pub mod Bits
 pub mod Queries
+pub mod Sound

@@ -1,2 +1,2 @@
-//! Operations on values of every class and shape: definitions.
+//! Operations on values of every class and shape: definitions, and lemmas that they keep values sound.
 #![tactic(auto)]
