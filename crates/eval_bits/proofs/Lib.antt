@@ -1,0 +1,9 @@
+pub mod Pairs
+pub mod Extents
+pub mod Fis
+pub mod Classes
+pub mod Raised
+pub mod Conditions
+pub mod Joined
+pub mod Others
+pub mod Lists
