@@ -106,7 +106,8 @@ module _ (vars functions : List (List ℕ)) (f g : Call) (calls : (at : Place) (
   call_kept : (e : Exp) (b : Bool) (env : Env) (wanted : ℕ) → Kept (call_outputs e (before b) env wanted) (call_outputs e (after b) env wanted)
   unfolding call_outputs
   call_kept (Name at name) b env wanted = kept_if _ (calls at name [] wanted) same
-  call_kept (Apply at name opens args) b env wanted = kept_bind (arguments_kept args b env at None) (λ vs. kept_if _ (calls at name _ wanted) same)
+  call_kept (Apply at name opens args) b env wanted =
+      kept_if _ (kept_bind (subscripts_kept args b env at _ 0 _) (λ vs. same)) (kept_bind (arguments_kept args b env at None) (λ vs. kept_if _ (calls at name _ wanted) same))
   call_kept (Number at text imaginary) b env wanted = same
   call_kept (Words at text) b env wanted = same
   call_kept (End at) b env wanted = same

@@ -114,8 +114,10 @@ module _ (vars more functions : List (List ℕ)) (f g : Call) (Asked : List ℕ 
       alike_if (same_called b name asked) (calls at name [] wanted asked) alike
   call_alike (Apply at name opens args) b env wanted w =
       let asked : Asked name = own Asked name (in_arguments args) w in
-      alike_bind (arguments_alike args b env at None (right Asked (λ other. bytes_eq other name) (in_arguments args) w))
-      (λ vs. alike_if (same_called b name asked) (calls at name _ wanted asked) alike)
+      let inner : Within Asked (in_arguments args) = right Asked (λ other. bytes_eq other name) (in_arguments args) w in
+      alike_both _
+      (alike_bind (subscripts_alike args b env at _ 0 _ inner) (λ vs. alike))
+      (alike_bind (arguments_alike args b env at None inner) (λ vs. alike_if (listed name asked) (calls at name _ wanted asked) alike))
   call_alike (Number at text imaginary) b env wanted w = alike
   call_alike (Words at text) b env wanted w = alike
   call_alike (End at) b env wanted w = alike

@@ -1,19 +1,19 @@
 -- Functions and entries give sound values.
 use Rattle.std.proofs.Common.{ℕ, zero, suc, false, List, [], ◌∷◌}
-use Rattle.std.specs.Prelude.{map, All}
+use Rattle.std.specs.Prelude.{nat_lt, ◌||◌, length, map, All}
 use Rattle.std.specs.List.{AllByRecursion}
 use Rattle.std.proofs.lemmas.List.Elements.{All-from_recursion, recursion_from_All}
 use Rattle.fic_base.specs.declared.place.Place.{Place}
 use Rattle.mat_ast.specs.declared.tree.Ident.{Ident}
 use Rattle.mat_ast.specs.Tree.{Fun}
-use Rattle.fi_eval.specs.Meaning.{output, variables_of}
+use Rattle.fi_eval.specs.Meaning.{variables_of}
 use Rattle.fi_eval.specs.Outcome.{Got}
 use Rattle.fi_rules.specs.Value.{Val, Fi, ComplexFi, Logical, Number, ComplexNumber, Words, MathObject, TypeObject}
 use Rattle.fi_values.specs.Sound.{IsSound, Granted, grants, at_fault, past, at_wrong}
 use Rattle.fi_values.proofs.Holds.{Holds, holds, empty, holds_then, granted_then, granted_wrong, granted_if, granted_any}
 use Rattle.fi_meaning.specs.Environment.{Env, no_values}
 use Rattle.fi_meaning.specs.Expressions.{is_listed}
-use Rattle.fi_meaning.specs.Meaning.{given_outputs, first_outputs, body_run, file_call, entry_outputs, entered, evaluated}
+use Rattle.fi_meaning.specs.Meaning.{given_outputs, first_outputs, body_run, file_call, entry_output, entry_outputs, entered, evaluated}
 use Rattle.fi_meaning.proofs.ShapesEnvironments.{AreSound, none_sound, variable_sound, under_names_sound}
 use Rattle.fi_meaning.proofs.ShapesExpressions.{CallsSound}
 use Rattle.fi_meaning.proofs.ShapesStatements.{block_sound}
@@ -34,20 +34,20 @@ body_sound call fs f env n calls h =
 file_sound : (fs : List Fun) (n depth : ℕ) (running : List (List ℕ)) → CallsSound (file_call fs n depth running)
 file_sound fs n zero running at name vs wanted h = at_wrong at
 file_sound fs n (suc depth) running at name vs wanted h =
-    granted_then (granted_any _) (λ f _. granted_if (is_listed name running) (λ _. at_wrong at) (λ _.
+    granted_then (granted_any _) (λ f _. granted_if (is_listed name running || nat_lt (length f.outputs) wanted) (λ _. at_wrong at) (λ _.
     granted_then (granted_wrong at (under_names_sound f.inputs vs no_values h none_sound)) (λ env k.
     granted_then (body_sound (file_call fs n depth (name ∷ running)) fs f env n (file_sound fs n depth (name ∷ running)) k) (λ later g.
     granted_then (given_sound f.outputs later g) (λ outs e. granted_wrong at (first_sound wanted outs e))))))
 
 -- ---- entries
 
-output_sound : (at : Place) (v : Val) → IsSound v → Granted IsSound (output at v)
-unfolding output
+output_sound : (at : Place) (v : Val) → IsSound v → Granted IsSound (entry_output at v)
+unfolding entry_output
 output_sound at (Fi t m s xs) h = grants _ h
 output_sound at (ComplexFi t m s xs ys) h = grants _ h
 output_sound at (Logical s bs) h = grants _ h
-output_sound at (Number s cs) h = at_wrong at
-output_sound at (ComplexNumber s xs ys) h = at_wrong at
+output_sound at (Number s cs) h = grants _ h
+output_sound at (ComplexNumber s xs ys) h = grants _ h
 output_sound at (Words text) h = at_wrong at
 output_sound at (MathObject m) h = at_wrong at
 output_sound at (TypeObject t) h = at_wrong at

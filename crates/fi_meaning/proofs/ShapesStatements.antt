@@ -10,7 +10,7 @@ use Rattle.fi_values.proofs.Holds.{granted_then, granted_wrong, granted_if, gran
 use Rattle.fi_values.proofs.Sizes.{scalar_sized}
 use Rattle.fi_values.proofs.Stores.{stored_sound}
 use Rattle.fi_meaning.specs.Environment.{Env, Flow, assigned}
-use Rattle.fi_meaning.specs.Expressions.{Context, looped, args_count, site_of}
+use Rattle.fi_meaning.specs.Expressions.{Context, is_listed, looped, args_count, site_of, subscript_values}
 use Rattle.fi_meaning.specs.Statements.{condition, item_value, is_called, call_outputs, output_values, run, run_arms, run_block}
 use Rattle.fi_meaning.proofs.ShapesCalls.{values_sound}
 use Rattle.fi_meaning.proofs.ShapesEnvironments.{AreSound, assigned_sound, variable_sound, under_names_sound, LeadsSound, RunsSound, then_sound, behind_sound, items_sound, turns_sound}
@@ -23,8 +23,10 @@ call_sound : (e : Exp) (cx : Context) (env : Env) (wanted : ℕ) → CallsSound 
 unfolding call_outputs
 call_sound (Name at name) cx env wanted calls h = granted_if (is_called cx name) (λ _. calls at name [] wanted tt) (λ _. at_wrong at)
 call_sound (Apply at name opens args) cx env wanted calls h =
-    granted_then (arguments_sound cx calls env h args at None) (λ vs k.
-    granted_if (is_called cx name) (λ _. calls at name _ wanted (values_sound vs k)) (λ _. at_wrong at))
+    granted_if (is_listed name cx.variables)
+    (λ _. granted_then (granted_any (subscript_values args cx env at (env name) 0 (args_count args))) (λ vs _. at_wrong at))
+    (λ _. granted_then (arguments_sound cx calls env h args at None) (λ vs k.
+    granted_if (is_listed name cx.functions) (λ _. calls at name _ wanted (values_sound vs k)) (λ _. at_wrong at)))
 call_sound (Number at text imaginary) cx env wanted calls h = at_wrong _
 call_sound (Words at text) cx env wanted calls h = at_wrong _
 call_sound (End at) cx env wanted calls h = at_wrong _

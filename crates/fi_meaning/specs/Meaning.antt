@@ -1,11 +1,11 @@
 -- What functions and files do, over their trees and without inference.
-use Rattle.std.specs.Prelude.{ℕ, zero, suc, false, List, [], ◌∷◌, map, Option, Some, None}
+use Rattle.std.specs.Prelude.{ℕ, zero, suc, nat_lt, ◌||◌, false, List, [], ◌∷◌, length, map, Option, Some, None}
 use Rattle.fic_base.specs.declared.place.Place.{Place}
 use Rattle.mat_ast.specs.declared.tree.Ident.{Ident}
 use Rattle.mat_ast.specs.Tree.{Fun}
 use Rattle.fi_rules.specs.Options.{◌|>◌}
-use Rattle.fi_rules.specs.Value.{Val}
-use Rattle.fi_eval.specs.Meaning.{function_named, variables_of, start, output}
+use Rattle.fi_rules.specs.Value.{Val, Words, MathObject, TypeObject}
+use Rattle.fi_eval.specs.Meaning.{function_named, variables_of, start}
 use Rattle.fi_eval.specs.Outcome.{Got, Gives, Wrong, ◌>>=◌, or_wrong, when◌then◌else◌}
 use Rattle.fi_meaning.specs.Expressions.{is_listed}
 use Rattle.fi_meaning.specs.Statements.{run_block}
@@ -28,22 +28,29 @@ body_run call fs f env n =
     run_block f.body (record { variables = variables_of f; functions = map (λ g. g.name.text) fs; call = call; in_loop = false }) n env
     >>= (λ flow. Gives (env_of flow))
 
--- a call of a function of the file, with so many calls still allowed; running are the functions whose bodies are being run
+-- a call of a function of the file, with so many calls still allowed; running are the functions whose bodies are being run. It is asked for no more outputs than
+-- the function has
 abbrev pub file_call : List Fun → ℕ → ℕ → List (List ℕ) → Place → List ℕ → List Val → ℕ → Got Place (List Val)
 file_call fs n zero running at name vs wanted = Wrong at
 file_call fs n (suc depth) running at name vs wanted =
     or_wrong at (function_named fs name)
-    >>= (λ f. when is_listed name running then Wrong at
+    >>= (λ f. when is_listed name running || nat_lt (length f.outputs) wanted then Wrong at
     else (or_wrong at (under_names f.inputs vs no_values)
     >>= (λ env. body_run (file_call fs n depth (name ∷ running)) fs f env n
     >>= (λ later. given_outputs f.outputs later >>= (λ outs. or_wrong at (first_outputs wanted outs))))))
 
--- an entry's outputs are fis or logicals
+-- an entry's output is no text and no object
+unfoldable pub entry_output : Place → Val → Got Place Val
+entry_output at (Words text) = Wrong at
+entry_output at (MathObject m) = Wrong at
+entry_output at (TypeObject t) = Wrong at
+entry_output at v = Gives v
+
 abbrev pub entry_outputs : List Ident → Env → Got Place (List Val)
 entry_outputs [] env = Gives []
 entry_outputs (name ∷ names) env = do
   v ← variable env name.place name.text
-  w ← output name.place v
+  w ← entry_output name.place v
   ws ← entry_outputs names env
   Gives (w ∷ ws)
 

@@ -56,11 +56,13 @@ item_value z = val.Number scalar (constant z ∷ [])
 abbrev pub is_called : Context → List ℕ → Bool
 is_called cx name = is_listed name cx.functions && not (is_listed name cx.variables)
 
--- the values of a call of a function of the file that is asked for several outputs
+-- the values of a call of a function of the file that is asked for several outputs; a variable gives no such list
 unfoldable pub call_outputs : Exp → Context → Env → ℕ → Got Place (List Val)
 call_outputs (Name at name) cx env wanted = when is_called cx name then cx.call at name [] wanted else Wrong at
 call_outputs (Apply at name opens args) cx env wanted =
-    arguments args cx env at None >>= (λ vs. when is_called cx name then cx.call at name (values_of vs) wanted else Wrong at)
+    when is_listed name cx.variables
+    then (subscript_values args cx env at (env name) 0 (args_count args) >>= (λ vs. Wrong at))
+    else (arguments args cx env at None >>= (λ vs. when is_listed name cx.functions then cx.call at name (values_of vs) wanted else Wrong at))
 call_outputs e cx env wanted = Wrong (place_of e)
 
 -- one output is the value of the expression
