@@ -4,8 +4,6 @@
 mod deep;
 mod laws;
 mod level;
-#[cfg(test)]
-mod tests;
 
 pub use deep::first_deep;
 pub use laws::{depth_by_words, depths_by_words};

@@ -11,8 +11,6 @@ mod function;
 mod laws;
 mod read;
 mod refusal;
-#[cfg(test)]
-mod tests;
 
 use c_grammar::at_most_one_program;
 use c_token::{interface_has_a_slot, one_interface, one_token_list};

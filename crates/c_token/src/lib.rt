@@ -9,8 +9,6 @@ mod line;
 mod scan;
 mod slot;
 mod slots;
-#[cfg(test)]
-mod tests;
 mod text;
 
 pub use laws::{

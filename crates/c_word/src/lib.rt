@@ -5,8 +5,6 @@ mod fixed;
 mod numbered;
 mod parameters;
 mod table;
-#[cfg(test)]
-mod tests;
 mod words;
 
 pub use table::WordTable;

@@ -6,7 +6,5 @@ mod interface;
 mod pieces;
 mod program;
 mod stmts;
-#[cfg(test)]
-mod tests;
 
 pub use program::{write_c, write_tree};

@@ -4,8 +4,6 @@
 mod decimal_text;
 mod json_text;
 mod line;
-#[cfg(test)]
-mod line_tests;
 mod member;
 mod outputs;
 mod plain;
@@ -14,8 +12,6 @@ mod ranges;
 mod refusal;
 mod result;
 mod result_line;
-#[cfg(test)]
-mod tests;
 
 pub use plain::read_cases;
 pub use refusal::{CaseBad, CaseRefusal, Cases};

@@ -10,8 +10,6 @@ mod literals;
 mod refusals;
 mod run;
 mod tenfold;
-#[cfg(test)]
-mod tests;
 mod unary;
 mod whole_power;
 

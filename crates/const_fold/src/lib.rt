@@ -6,8 +6,6 @@ mod laws;
 mod matrix;
 mod power;
 mod refusals;
-#[cfg(test)]
-mod tests;
 
 pub use binary::fold_binary;
 pub use laws::refused_operators_make_nothing;

@@ -11,8 +11,6 @@ mod powers;
 mod real;
 mod signs;
 mod taking;
-#[cfg(test)]
-mod tests;
 mod truths;
 
 pub use bits::{bits_between, bitwise, complemented_bits, shifted};

@@ -3,8 +3,6 @@
 
 mod complex;
 mod laws;
-#[cfg(test)]
-mod tables;
 
 pub use complex::{cbit_not, cbit_slice, cbit_sll, cbit_sra, cbit_srl};
 pub use laws::{

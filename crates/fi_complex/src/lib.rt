@@ -5,8 +5,6 @@ mod laws;
 mod parts;
 mod products;
 mod sums;
-#[cfg(test)]
-mod tables;
 
 pub use laws::{full_accumulations_are_exact, sum_types_have_steps};
 pub use parts::{as_complex, complex, imaginary_part, real_part};

@@ -4,8 +4,6 @@
 mod fimath;
 mod governing;
 mod laws;
-#[cfg(test)]
-mod tables;
 mod types;
 
 pub use fimath::{Fimath, Mode};

@@ -10,8 +10,6 @@ mod pair;
 mod products;
 mod signs;
 mod sums;
-#[cfg(test)]
-mod tables;
 mod whole;
 
 pub use bits::{

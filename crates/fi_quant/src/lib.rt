@@ -4,8 +4,6 @@
 mod fitting;
 mod laws;
 mod rounding;
-#[cfg(test)]
-mod tables;
 
 pub use fitting::{fit, fit_sum, gap, quantise};
 pub use laws::{each_fits_once, each_quantises_once, each_rounds_once};

@@ -33,6 +33,3 @@ pub use signs::{Signed, sign};
 pub use ty::{Ty, is_same};
 pub use work::{Work, work_of};
 pub use working::work_out;
-
-#[cfg(test)]
-mod tests;

@@ -4,8 +4,6 @@
 mod depth;
 mod file;
 mod make;
-#[cfg(test)]
-mod tests;
 mod tree;
 
 pub use depth::is_within;

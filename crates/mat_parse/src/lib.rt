@@ -5,7 +5,5 @@ mod advance;
 mod least;
 mod names;
 mod parser;
-#[cfg(test)]
-mod tests;
 
 pub use parser::{one_parse, parse, parse_list};

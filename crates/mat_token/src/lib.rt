@@ -10,8 +10,6 @@ mod place;
 mod rule;
 mod scan;
 mod separate;
-#[cfg(test)]
-mod tests;
 mod token;
 
 pub use laws::one_outcome;

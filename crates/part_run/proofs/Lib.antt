@@ -1,4 +1,3 @@
 pub mod Formed
-pub mod Lowered
 pub mod Ready
 pub mod Types

@@ -4,8 +4,6 @@
 mod digits;
 mod maths;
 mod shown;
-#[cfg(test)]
-mod tests;
 mod types;
 mod whole;
 

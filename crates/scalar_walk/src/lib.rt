@@ -6,17 +6,11 @@ mod calls;
 mod emitted;
 mod entry;
 mod file;
-#[cfg(test)]
-mod file_tests;
 mod leaves;
 mod operand;
-#[cfg(test)]
-mod operation_tests;
 mod operations;
 mod results;
 mod statements;
-#[cfg(test)]
-mod tests;
 mod turns;
 mod variables;
 mod walk;

@@ -1,0 +1,5 @@
+//! Worked evaluations.
+#![tactic(auto)]
+
+#[cfg(test)]
+mod bits_and_truth_values;
