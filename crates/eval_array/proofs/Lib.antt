@@ -1,0 +1,11 @@
+pub mod Bounds
+pub mod Complexes
+pub mod Counts
+pub mod Elements
+pub mod Joined
+pub mod Outcomes
+pub mod Picked
+pub mod Rows
+pub mod Selected
+pub mod Turned
+pub mod Written

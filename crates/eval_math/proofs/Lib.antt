@@ -1,0 +1,16 @@
+pub mod Pairing
+pub mod Bound
+pub mod Composed
+pub mod Alongside
+pub mod Dispatch
+pub mod Counted
+pub mod Ordered
+pub mod ComplexElements
+pub mod Added
+pub mod Sorts
+pub mod Reckoned
+pub mod Zero
+pub mod Apart
+pub mod Entries
+pub mod Matrix
+pub mod Accumulated
