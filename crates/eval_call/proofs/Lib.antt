@@ -1,0 +1,12 @@
+pub mod Follow
+pub mod Comparing
+pub mod Names
+pub mod Arguments
+pub mod Represented
+pub mod Stands
+pub mod Granting
+pub mod Forms
+pub mod Tops
+pub mod Capped
+pub mod Extents
+pub mod Numbered

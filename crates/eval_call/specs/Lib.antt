@@ -1,0 +1,4 @@
+pub mod View
+pub mod Represented
+pub mod Functions
+pub mod Casts
