@@ -1,0 +1,14 @@
+pub mod Follow
+pub mod Names
+pub mod Views
+pub mod Literals
+pub mod Calls
+pub mod Lists
+pub mod Tables
+pub mod Steps
+pub mod Targets
+pub mod Bodies
+pub mod Loops
+pub mod Files
+pub mod Entries
+pub mod LoopItems

@@ -1,0 +1,5 @@
+pub mod View
+pub mod Items
+pub mod Halts
+pub mod Flows
+pub mod Outcomes

@@ -1,0 +1,204 @@
+//! Values of expressions behind those of their parts.
+
+ghost use Rattle.std.specs.Prelude.{◌≡◌, Some, length, map};
+ghost use Rattle.mat_ast.specs.View.{args_view};
+ghost use Rattle.fi_rules.specs.Options.{◌|>◌};
+ghost use Rattle.fi_eval.specs.Outcome.{Gives, bind, or_wrong};
+ghost use Rattle.fi_values.specs.Brackets as brackets;
+ghost use Rattle.fi_values.specs.Logicals.{deciding, scalar_truth, truth_value};
+ghost use Rattle.fi_values.specs.Numbers.{whole_value};
+ghost use Rattle.fi_values.specs.Ranges as ranges;
+ghost use Rattle.fi_values.specs.Reads as reads;
+ghost use Rattle.fi_values.specs.Subscripts as subscripting;
+ghost use Rattle.fi_values.specs.Transposes as transposes;
+ghost use Rattle.fi_meaning.specs.Environment.{variable};
+ghost use Rattle.fi_meaning.specs.Expressions as meaning;
+ghost use Rattle.fi_meaning.specs.Operators as operators;
+ghost use Rattle.eval_value.specs.Tells.{Tells};
+ghost use Rattle.eval_value.specs.View.{item_view, row_view, value_view};
+ghost use Rattle.eval_source.specs.Items.{same};
+ghost use Rattle.eval_source.specs.View.{env_view};
+
+use crate::variables::Variables;
+use eval_array::{bracket, extent, ranged, read, transposed};
+use eval_call::{operate, signed};
+use eval_value::{Halt, Value, make_truth, make_whole};
+use fic_base::Place;
+use mat_ast::{Arg, BinOp, PostOp, UnOp};
+use std::alloc::Global;
+
+// A value that has to be there; wrong at the place where there is none.
+#[tactic(auto, unfolding(fi_eval::specs::Outcome::or_wrong))]
+fn settled(at: Place, found: Option<Value>) -> Result<Value, Halt>
+    ensures { Tells result value_view (or_wrong at (item_view found)) }
+{
+    match found {
+        None => Err(Halt::Wrong(at)),
+        Some(v) => Ok(v),
+    }
+}
+
+/// A sign, or `~`, before a value.
+#[tactic(auto, using(crate::proofs::Follow::known))]
+pub fn sign_value(alloc: Global, at: Place, sign: UnOp, value: Value) -> Result<Value, Halt>
+    ensures { Tells result value_view (or_wrong at (operators.by_sign sign (value_view value))) }
+{
+    let found = signed(alloc, sign, &value)?;
+    settled(at, found)
+}
+
+/// A transpose.
+#[tactic(auto, using(crate::proofs::Follow::known))]
+pub fn transposed_value(alloc: Global, at: Place, mark: PostOp, value: Value) -> Result<Value, Halt>
+    ensures { Tells result value_view (or_wrong at (transposes.transposed mark (value_view value))) }
+{
+    let found = transposed(alloc, mark, &value)?;
+    settled(at, found)
+}
+
+/// A range.
+#[tactic(auto, using(crate::proofs::Follow::known))]
+pub fn range_value(
+    alloc: Global,
+    at: Place,
+    first: Value,
+    step: Value,
+    last: Value,
+) -> Result<Value, Halt>
+    ensures { Tells result value_view (or_wrong at (ranges.ranged (value_view first) (value_view step) (value_view last))) }
+{
+    let found = ranged(alloc, &first, &step, &last)?;
+    settled(at, found)
+}
+
+/// The step of a range that has none: 1.
+pub fn unit_step(alloc: Global) -> Result<Value, Halt>
+    ensures { Tells result value_view (Gives (whole_value 1)) }
+{
+    let step = make_whole(alloc, 1)?;
+    Ok(step)
+}
+
+/// A bracket of rows of values.
+#[tactic(auto, using(crate::proofs::Follow::known))]
+pub fn bracket_value(alloc: Global, at: Place, rows: Vec<Vec<Value>>) -> Result<Value, Halt>
+    ensures { Tells result value_view (or_wrong at (brackets.bracket (map row_view rows.items))) }
+{
+    let found = bracket(alloc, rows.as_slice())?;
+    settled(at, found)
+}
+
+/// An operator between two values.
+#[tactic(auto, using(crate::proofs::Follow::known))]
+pub fn pair_value(alloc: Global, at: Place, op: BinOp, x: Value, y: Value) -> Result<Value, Halt>
+    ensures { Tells result value_view (or_wrong at (operators.by_operator op (value_view x) (value_view y))) }
+{
+    let found = operate(alloc, op, &x, &y)?;
+    settled(at, found)
+}
+
+/// A read of a variable by subscripts; wrong at the place where it has no value.
+pub fn read_value(
+    alloc: Global,
+    names: &Variables,
+    at: Place,
+    opens: Place,
+    name: &[u8],
+    subscripts: Vec<Option<Value>>,
+) -> Result<Value, Halt>
+    ensures { Tells result value_view (bind (variable (env_view names.now) at name.now) (λ v. bind (or_wrong at (subscripting.as_subscripts (map item_view subscripts.items))) (λ subs. reads.read at (meaning.site_of opens) v subs))) }
+{
+    match names.get(name) {
+        None => Err(Halt::Wrong(at)),
+        Some(v) => {
+            let site = site_of(opens);
+            read(alloc, at, site, v, subscripts.as_slice())
+        }
+    }
+}
+
+/// The number of a fault at an opening parenthesis.
+pub fn site_of(opens: Place) -> u64
+    ensures { result ≡ meaning.site_of opens }
+{
+    opens.offset as u64 + 1
+}
+
+/// What `end` means in a subscript of a variable, by its number, from 0, of so many; nothing where the variable has no value.
+pub fn end_in(names: &Variables, name: &[u8], number: usize, many: usize) -> Option<u32>
+    ensures { result ≡ (env_view names.now name.now |> (λ u. Some (subscripting.extent (reads.shape_of u) number many))) }
+{
+    match names.get(name) {
+        None => None,
+        Some(v) => Some(extent(v, number, many)),
+    }
+}
+
+/// How many items there are.
+pub fn number_of(items: &Vec<Option<Value>>) -> usize
+    ensures { result ≡ length items.now.items }
+{
+    items.as_slice().len()
+}
+
+/// How many subscripts or arguments there are.
+#[tactic(auto, using(crate::proofs::Views::count_is))]
+pub fn count_of(args: &[Arg]) -> usize
+    ensures { result ≡ meaning.args_count (args_view args.now) }
+{
+    args.len()
+}
+
+/// The truth of an operand of an operator that skips; wrong at the operator where it has none.
+pub fn truth_at(at: Place, value: Value) -> Result<bool, Halt>
+    ensures { Tells result (λ b. b) (or_wrong at (scalar_truth (value_view value))) }
+{
+    settled_truth(at, eval_bits::scalar_truth(&value))
+}
+
+/// A truth that has to be there; wrong at the place where there is none.
+#[tactic(auto, unfolding(fi_eval::specs::Outcome::or_wrong))]
+pub fn settled_truth(at: Place, truth: Option<bool>) -> Result<bool, Halt>
+    ensures { Tells result (λ b. b) (or_wrong at truth) }
+{
+    match truth {
+        None => Err(Halt::Wrong(at)),
+        Some(b) => Ok(b),
+    }
+}
+
+/// The truth of the left operand that decides alone. None for an operator that evaluates both.
+#[tactic(auto, unfolding(fi_values::specs::Logicals::deciding))]
+pub fn decides(op: BinOp) -> Option<bool>
+    ensures { result ≡ deciding op }
+{
+    match op {
+        BinOp::AndAnd => Some(false),
+        BinOp::OrOr => Some(true),
+        _ => None,
+    }
+}
+
+/// Whether the left operand decides.
+pub fn is_same(truth: bool, decides: bool) -> bool
+    ensures { result ≡ same truth decides }
+{
+    if truth { decides } else { !decides }
+}
+
+/// A truth as a value.
+pub fn made_truth(alloc: Global, truth: bool) -> Result<Value, Halt>
+    ensures { Tells result value_view (Gives (truth_value truth)) }
+{
+    let v = make_truth(alloc, truth)?;
+    Ok(v)
+}
+
+/// The right operand of an operator that skips, where it decides.
+#[tactic(auto, using(crate::proofs::Follow::after_ok, crate::proofs::Follow::after_err))]
+pub fn right_truth(alloc: Global, at: Place, value: Value) -> Result<Value, Halt>
+    ensures { Tells result value_view (bind (or_wrong at (scalar_truth (value_view value))) (λ u. Gives (truth_value u))) }
+{
+    let truth = truth_at(at, value)?;
+    made_truth(alloc, truth)
+}
