@@ -60,7 +60,7 @@ turned_sound (Went env) next h k = k env h
 turned_sound (Continued env) next h k = k env h
 turned_sound (Broke env) next h k = grants _ h
 
-pub behind_sound : (name : List ℕ) (flow : Flow) → LeadsSound flow → Granted LeadsSound (behind_loop name flow)
+pub behind_sound : (name : List ℕ) (flow : Flow) → LeadsSound flow → Granted {W = Place} LeadsSound (behind_loop name flow)
 unfolding behind_loop
 behind_sound name (Went env) h = grants _ (forgotten_sound name env h)
 behind_sound name (Broke env) h = grants _ (forgotten_sound name env h)

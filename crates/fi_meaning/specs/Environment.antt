@@ -27,7 +27,7 @@ under_names [] [] env = Some env
 under_names (name ∷ names) (v ∷ vs) env = under_names names vs (assigned name.text v env)
 under_names names vs env = None
 
--- where a statement leads: on, out of a loop, or to its next turn
+-- where a statement leads: on, out of a loop, or to its next turn. What follows serves every type W of wrong places
 pub data Flow : Type 0 where
   Went : Env → Flow
   Broke : Env → Flow
@@ -39,19 +39,19 @@ env_of (Broke env) = env
 env_of (Continued env) = env
 
 -- on to the next statement, where the one before has not left the block
-unfoldable pub then_do : Flow → (Env → Got Place Flow) → Got Place Flow
+unfoldable pub then_do : {W : Type 0} → Flow → (Env → Got W Flow) → Got W Flow
 then_do (Went env) next = next env
 then_do (Broke env) next = Gives (Broke env)
 then_do (Continued env) next = Gives (Continued env)
 
 -- on to the next turn of a loop, or out of it
-unfoldable pub turned : Flow → (Env → Got Place Flow) → Got Place Flow
+unfoldable pub turned : {W : Type 0} → Flow → (Env → Got W Flow) → Got W Flow
 turned (Went env) next = next env
 turned (Continued env) next = next env
 turned (Broke env) next = Gives (Went env)
 
 -- a loop variable is known in the body alone
-unfoldable pub behind_loop : List ℕ → Flow → Got Place Flow
+unfoldable pub behind_loop : {W : Type 0} → List ℕ → Flow → Got W Flow
 behind_loop name (Went env) = Gives (Went (forgotten name env))
 behind_loop name (Broke env) = Gives (Broke (forgotten name env))
 behind_loop name (Continued env) = Gives (Continued (forgotten name env))

@@ -15,15 +15,15 @@ use Rattle.fi_meaning.specs.Calls.{values_of}
 use Rattle.fi_meaning.specs.Expressions.{Context, looped, is_listed, value, arguments, subscript_values, args_count, site_of}
 use Rattle.fi_meaning.specs.Environment.{Env, Flow, Went, Broke, Continued, assigned, variable, under_names, then_do, turned, behind_loop}
 
--- ---- loops
+-- ---- loops, over every type W of wrong places
 
 -- each item in order
-abbrev pub each_item : {A : Type 0} → List A → (A → Env → Got Place Flow) → Env → Got Place Flow
+abbrev pub each_item : {W A : Type 0} → List A → (A → Env → Got W Flow) → Env → Got W Flow
 each_item [] body env = Gives (Went env)
 each_item (x ∷ xs) body env = body x env >>= (λ flow. turned flow (each_item xs body))
 
 -- at most n turns: past the bound where the test holds once more
-abbrev pub turns : ℕ → (Env → Got Place Bool) → (Env → Got Place Flow) → Env → Got Place Flow
+abbrev pub turns : {W : Type 0} → ℕ → (Env → Got W Bool) → (Env → Got W Flow) → Env → Got W Flow
 turns zero test body env = test env >>= (λ t. when t then Over else Gives (Went env))
 turns (suc n) test body env =
     test env >>= (λ t. when t then (body env >>= (λ flow. turned flow (turns n test body))) else Gives (Went env))
