@@ -12,13 +12,13 @@ use Rattle.fi_eval.specs.Outcome.{Got, Gives, bind, ◌>>=◌, choose, or_wrong}
 use Rattle.fi_values.specs.Logicals.{scalar_truth, truth_value}
 use Rattle.fi_values.specs.Ranges.{ranged}
 use Rattle.fi_meaning.specs.Environment.{Env}
-use Rattle.fi_meaning.specs.Expressions.{Context, value, behind_left}
+use Rattle.fi_meaning.specs.Expressions.{Context, value, behind_left, decided, right_decides}
 use Rattle.fi_meaning.specs.Operators.{by_operator}
 use Rattle.eval_value.specs.Tells.{Tells}
 use Rattle.eval_value.specs.View.{item_view, value_view}
 use Rattle.eval_value.specs.declared.halt.Halt.{Halt}
 use Rattle.eval_value.specs.declared.value.Value.{Value}
-use Rattle.eval_source.specs.Items.{item_value, same}
+use Rattle.eval_source.specs.Items.{item_value}
 use Rattle.eval_source.proofs.Follow.{after_ok, after_err}
 use Rattle.eval_source.proofs.Views.{range_by_view, item_is, all_is}
 
@@ -42,21 +42,19 @@ plain_told r at op o x right h t = subst (λ o. Tells r value_view (behind_left 
 pub skipping_told : (r : Result Value Halt) (at : Place) (op : BinOp) (o : Option Bool) (b : Bool) (x : Val) (right : Got Place Val) → o ≡ Some b → Tells r value_view (behind_left at op (Some b) x right) → Tells r value_view (behind_left at op o x right)
 skipping_told r at op o b x right h t = subst (λ o. Tells r value_view (behind_left at op o x right)) (sym h) t
 
-pub skip_stops : (h : Halt) (at : Place) (op : BinOp) (b : Bool) (x : Val) (right : Got Place Val) → Tells {R = Bool} (Err h) (λ b. b) (or_wrong at (scalar_truth x)) → Tells {R = Value} (Err h) value_view (behind_left at op (Some b) x right)
-unfolding behind_left
-skip_stops h at op b x right t = after_err h (λ (b : Bool). b) value_view (or_wrong at (scalar_truth x)) _ t
-
-pub skip_decided : (r : Result Value Halt) (at : Place) (op : BinOp) (b t s : Bool) (x : Val) (right : Got Place Val) → or_wrong at (scalar_truth x) ≡ Gives t → s ≡ same t b → s ≡ true
+-- o is the truth of the left operand, s whether it decides
+pub skip_decided : (r : Result Value Halt) (at : Place) (op : BinOp) (b s : Bool) (o : Option Bool) (x : Val) (right : Got Place Val) → o ≡ scalar_truth x → s ≡ decided b o → s ≡ true
     → Tells r value_view (Gives (truth_value b)) → Tells r value_view (behind_left at op (Some b) x right)
 unfolding behind_left choose
-skip_decided r at op b t s x right h is holds told =
-    after_ok r value_view (or_wrong at (scalar_truth x)) t _ h (subst (λ c. Tells r value_view (choose c (Gives (truth_value b)) (right >>= (λ y. or_wrong at (scalar_truth y) >>= (λ u. Gives (truth_value u)))))) (sym holds ∙ is) told)
+skip_decided r at op b s o x right truth is holds told =
+    subst (λ c. Tells r value_view (choose c (Gives (truth_value b)) (right >>= (λ y. or_wrong at (right_decides (scalar_truth x) y))))) (sym holds ∙ is ∙ ap (decided b) truth) told
 
-pub skip_right : (r : Result Value Halt) (at : Place) (op : BinOp) (b t s : Bool) (x : Val) (right : Got Place Val) → or_wrong at (scalar_truth x) ≡ Gives t → s ≡ same t b → s ≡ false
-    → Tells r value_view (right >>= (λ y. or_wrong at (scalar_truth y) >>= (λ u. Gives (truth_value u)))) → Tells r value_view (behind_left at op (Some b) x right)
+pub skip_right : (r : Result Value Halt) (at : Place) (op : BinOp) (b s : Bool) (o : Option Bool) (x : Val) (right : Got Place Val) → o ≡ scalar_truth x → s ≡ decided b o → s ≡ false
+    → Tells r value_view (right >>= (λ y. or_wrong at (right_decides o y))) → Tells r value_view (behind_left at op (Some b) x right)
 unfolding behind_left choose
-skip_right r at op b t s x right h is fails told =
-    after_ok r value_view (or_wrong at (scalar_truth x)) t _ h (subst (λ c. Tells r value_view (choose c (Gives (truth_value b)) (right >>= (λ y. or_wrong at (scalar_truth y) >>= (λ u. Gives (truth_value u)))))) (sym fails ∙ is) told)
+skip_right r at op b s o x right truth is fails told =
+    subst (λ c. Tells r value_view (choose c (Gives (truth_value b)) (right >>= (λ y. or_wrong at (right_decides (scalar_truth x) y))))) (sym fails ∙ is ∙ ap (decided b) truth)
+    (subst (λ p. Tells r value_view (right >>= (λ y. or_wrong at (right_decides p y)))) truth told)
 
 -- ---- an item
 

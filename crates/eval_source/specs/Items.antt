@@ -1,5 +1,5 @@
 -- Arguments and subscripts one by one.
-use Rattle.std.specs.Prelude.{ℕ, Bool, true, false, not, List, [], ◌∷◌, ◌++◌, map, Option, Some, None}
+use Rattle.std.specs.Prelude.{ℕ, Bool, true, false, List, [], ◌∷◌, ◌++◌, map, Option, Some, None}
 use Rattle.fic_base.specs.declared.place.Place.{Place}
 use Rattle.mat_ast.specs.Tree.{Exp}
 use Rattle.fi_rules.specs.Value.{Val}
@@ -39,8 +39,3 @@ closed at p more = by p.colon
 
 abbrev pub passed_view : code.Passed → Passed
 passed_view p = record { arguments = map argument_view p.arguments.items; colon = p.colon }
-
--- whether the left operand decides
-abbrev pub same : Bool → Bool → Bool
-same true c = c
-same false c = not c

@@ -6,7 +6,6 @@ ghost use Rattle.mat_ast.specs.View.{arg_view, args_view, expr_view, row_of};
 ghost use Rattle.mat_ast.specs.View as view;
 ghost use Rattle.fi_eval.specs.Outcome.{Gives, bind, or_wrong};
 ghost use Rattle.fi_values.specs.Logicals as logicals;
-ghost use Rattle.fi_values.specs.Logicals.{scalar_truth, truth_value};
 ghost use Rattle.fi_values.specs.Numbers.{whole_value};
 ghost use Rattle.fi_values.specs.Ranges as ranges;
 ghost use Rattle.fi_values.specs.Reads as reads;
@@ -24,8 +23,8 @@ use crate::arguments::Passed;
 use crate::caller::Caller;
 use crate::leaves::{called, end_value, is_word_item, name_value, number_value, text_value};
 use crate::parts::{
-    bracket_value, count_of, decides, end_in, is_same, made_truth, number_of, pair_value,
-    range_value, read_value, right_truth, sign_value, transposed_value, truth_at, unit_step,
+    bracket_value, count_of, decides, end_in, has_decided, made_truth, number_of, pair_value,
+    range_value, read_value, right_truth, sign_value, transposed_value, truth_in, unit_step,
 };
 use crate::scope::{Scope, is_listed};
 use crate::variables::Variables;
@@ -232,15 +231,15 @@ fn skipping<C: Caller>(
 ) -> Result<Value, Halt>
     ensures { Tells result value_view (meaning.behind_left at op (Some deciding) (value_view left) (meaning.value (expr_view right.now) (context_of scope.now (C.called caller.now)) (env_view names.now) ends)) }
 {
-    let truth = truth_at(at, left)?;
-    if is_same(truth, deciding) {
+    let truth = truth_in(left);
+    if has_decided(deciding, truth) {
         made_truth(alloc, deciding)
     } else {
-        deciding_right(right, alloc, scope, caller, names, ends, at)
+        deciding_right(right, alloc, scope, caller, names, ends, at, truth)
     }
 }
 
-// The right operand of an operator that skips, where it decides.
+// The right operand of an operator that skips, behind a left one with this truth, which hasn't decided.
 #[cycle(evaluate)]
 #[tactic(auto, using(crate::proofs::Follow::after_err, crate::proofs::Follow::chosen, crate::proofs::Follow::not_chosen), unfolding(fi_eval::specs::Outcome::bind))]
 fn deciding_right<C: Caller>(
@@ -251,11 +250,12 @@ fn deciding_right<C: Caller>(
     names: &Variables,
     ends: Option<u32>,
     at: Place,
+    left: Option<bool>,
 ) -> Result<Value, Halt>
-    ensures { Tells result value_view (bind (meaning.value (expr_view right.now) (context_of scope.now (C.called caller.now)) (env_view names.now) ends) (λ y. bind (or_wrong at (scalar_truth y)) (λ u. Gives (truth_value u)))) }
+    ensures { Tells result value_view (bind (meaning.value (expr_view right.now) (context_of scope.now (C.called caller.now)) (env_view names.now) ends) (λ y. or_wrong at (meaning.right_decides left y))) }
 {
     let y = evaluate(right, alloc, scope, caller, names, ends)?;
-    right_truth(alloc, at, y)
+    right_truth(alloc, at, left, y)
 }
 
 // The right operand of another operator.

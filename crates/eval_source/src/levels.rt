@@ -19,7 +19,7 @@ use crate::outcome::{Outcome, outcome_of};
 use crate::variables::Variables;
 use eval_value::{Halt, Value};
 use fic_base::{Place, Text};
-use mat_ast::Func;
+use mat_ast::{File, Func};
 use num_type::Memory;
 use std::alloc::Global;
 use std::marker::PhantomData;
@@ -194,16 +194,29 @@ fn evaluated(
     }
 }
 
+// Copies of values.
+fn copies(alloc: Global, values: &[Value]) -> Result<Vec<Value>, Memory>
+    ensures { IfOk result (λ v. row_view v ≡ map value_view values.now) }
+{
+    let mut out = Vec::new(alloc);
+    for value in values {
+        let v = value.copied(alloc)?;
+        out.push(v)?;
+    }
+    Ok(out)
+}
+
 /// What a file does from an entry on these inputs, where each `while` makes at most so many turns. Want of memory is the only refusal.
 pub fn evaluate(
     alloc: Global,
-    funcs: &[Func],
-    entry: &[u8],
-    inputs: Vec<Value>,
+    file: &File,
+    entry: &str,
+    inputs: &[Value],
     turns: u64,
 ) -> Result<Outcome, Memory>
-    ensures { IfOk result (λ o. outcome_view o ≡ functions.evaluated (funcs_view funcs.now) entry.now (row_view inputs) turns) }
+    ensures { IfOk result (λ o. outcome_view o ≡ functions.evaluated (funcs_view file.now) entry.now (map value_view inputs.now) turns) }
 {
-    let answer = evaluated(alloc, funcs, entry, inputs, turns);
+    let values = copies(alloc, inputs)?;
+    let answer = evaluated(alloc, file.funcs(), entry.as_bytes(), values, turns);
     outcome_of(answer)
 }

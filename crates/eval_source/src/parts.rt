@@ -16,7 +16,6 @@ ghost use Rattle.fi_meaning.specs.Expressions as meaning;
 ghost use Rattle.fi_meaning.specs.Operators as operators;
 ghost use Rattle.eval_value.specs.Tells.{Tells};
 ghost use Rattle.eval_value.specs.View.{item_view, row_view, value_view};
-ghost use Rattle.eval_source.specs.Items.{same};
 ghost use Rattle.eval_source.specs.View.{env_view};
 
 use crate::variables::Variables;
@@ -149,11 +148,11 @@ pub fn count_of(args: &[Arg]) -> usize
     args.len()
 }
 
-/// The truth of an operand of an operator that skips; wrong at the operator where it has none.
-pub fn truth_at(at: Place, value: Value) -> Result<bool, Halt>
-    ensures { Tells result (λ b. b) (or_wrong at (scalar_truth (value_view value))) }
+/// The truth of an operand of an operator that skips, if it has one.
+pub fn truth_in(value: Value) -> Option<bool>
+    ensures { result ≡ scalar_truth (value_view value) }
 {
-    settled_truth(at, eval_bits::scalar_truth(&value))
+    eval_bits::scalar_truth(&value)
 }
 
 /// A truth that has to be there; wrong at the place where there is none.
@@ -179,11 +178,15 @@ pub fn decides(op: BinOp) -> Option<bool>
     }
 }
 
-/// Whether the left operand decides.
-pub fn is_same(truth: bool, decides: bool) -> bool
-    ensures { result ≡ same truth decides }
+/// Whether the left operand of an operator that skips has the truth that decides.
+#[tactic(auto, unfolding(fi_meaning::specs::Expressions::decided))]
+pub fn has_decided(deciding: bool, left: Option<bool>) -> bool
+    ensures { result ≡ meaning.decided deciding left }
 {
-    if truth { decides } else { !decides }
+    match left {
+        None => false,
+        Some(truth) => { if deciding { truth } else { !truth } }
+    }
 }
 
 /// A truth as a value.
@@ -194,11 +197,22 @@ pub fn made_truth(alloc: Global, truth: bool) -> Result<Value, Halt>
     Ok(v)
 }
 
-/// The right operand of an operator that skips, where it decides.
-#[tactic(auto, using(crate::proofs::Follow::after_ok, crate::proofs::Follow::after_err))]
-pub fn right_truth(alloc: Global, at: Place, value: Value) -> Result<Value, Halt>
-    ensures { Tells result value_view (bind (or_wrong at (scalar_truth (value_view value))) (λ u. Gives (truth_value u))) }
+/// The truth of the right operand of an operator that skips as its result; wrong at its place where one of the two operands has none.
+#[tactic(auto, unfolding(fi_meaning::specs::Expressions::right_decides, fi_rules::specs::Options::and_then, fi_eval::specs::Outcome::or_wrong))]
+pub fn right_truth(
+    alloc: Global,
+    at: Place,
+    left: Option<bool>,
+    right: Value,
+) -> Result<Value, Halt>
+    ensures { Tells result value_view (or_wrong at (meaning.right_decides left (value_view right))) }
 {
-    let truth = truth_at(at, value)?;
-    made_truth(alloc, truth)
+    let truth = truth_in(right);
+    match left {
+        None => Err(Halt::Wrong(at)),
+        Some(_) => match truth {
+            None => Err(Halt::Wrong(at)),
+            Some(t) => made_truth(alloc, t),
+        },
+    }
 }

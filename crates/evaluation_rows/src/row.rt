@@ -74,15 +74,8 @@ impl Row {
     }
 
     fn outcome_in(&self, alloc: Global, file: &File) -> anyhow::Result<String> {
-        let mut inputs = Vec::new(alloc);
-        for value in self.inputs.as_slice() {
-            match value.copied(alloc) {
-                Ok(value) => inputs.push(value)?,
-                Err(Memory) => anyhow::bail!("no memory"),
-            }
-        }
-        let entry = self.entry.as_bytes();
-        match evaluate(alloc, file.funcs(), entry, inputs, self.turns) {
+        let inputs = self.inputs.as_slice();
+        match evaluate(alloc, file, self.entry.as_str(), inputs, self.turns) {
             Ok(outcome) => written(alloc, outcome),
             Err(Memory) => anyhow::bail!("no memory"),
         }

@@ -31,24 +31,32 @@ record IsKnown (fs : List Fun) (entry added name : List ℕ) : Type 0 where
   other : name ≡ added → ⊥
   leads : (h : Fun) → function_named fs name ≡ Some h → Reached fs entry h
 
+-- the same of a name that stands in a function, where it is none of its variables
+record IsKnownIn (fs : List Fun) (entry added : List ℕ) (f : Fun) (name : List ℕ) : Type 0 where
+  other : name ≡ added → ⊥
+  leads : is_listed name (variables_of f) ≡ false → (h : Fun) → function_named fs name ≡ Some h → Reached fs entry h
+
 module _ (fs : List Fun) (g : Fun) (entry : List ℕ) (apart : IsApart fs entry g.name.text) where
   abbrev Known : List ℕ → Type 0
   Known = IsKnown fs entry g.name.text
 
-  known : (f : Fun) → Reached fs entry f → Within Known (in_function f)
+  abbrev KnownIn : Fun → List ℕ → Type 0
+  KnownIn = IsKnownIn fs entry g.name.text
+
+  known : (f : Fun) → Reached fs entry f → Within (KnownIn f) (in_function f)
   known f r name h = record {
     other = λ e. false≢true (sym (apart.no_use f r) ∙ ap (in_function f) (sym e) ∙ h);
-    leads = λ k e. Onward f k name r h e;
+    leads = λ free k e. Onward f k name r h free e;
   }
 
-  body_within : (f : Fun) → Reached fs entry f → Within Known (in_block f.body)
+  body_within : (f : Fun) → Reached fs entry f → Within (KnownIn f) (in_block f.body)
   body_within f r =
-      right Known (λ name. is_listed name (names_of f.outputs)) (in_block f.body)
-      (right Known (λ name. is_listed name (names_of f.inputs)) (λ name. is_listed name (names_of f.outputs) || in_block f.body name)
-      (right Known (λ name. bytes_eq name f.name.text) (λ name. is_listed name (names_of f.inputs) || (is_listed name (names_of f.outputs) || in_block f.body name)) (known f r)))
+      right (KnownIn f) (λ name. is_listed name (names_of f.outputs)) (in_block f.body)
+      (right (KnownIn f) (λ name. is_listed name (names_of f.inputs)) (λ name. is_listed name (names_of f.outputs) || in_block f.body name)
+      (right (KnownIn f) (λ name. bytes_eq name f.name.text) (λ name. is_listed name (names_of f.inputs) || (is_listed name (names_of f.outputs) || in_block f.body name)) (known f r)))
 
-  listed : (name : List ℕ) → Known name → is_listed name (map (λ (h : Fun). h.name.text) (fs ++ (g ∷ []))) ≡ is_listed name (map (λ (h : Fun). h.name.text) fs)
-  listed name k = listed_more fs g name (differ name g.name.text k.other)
+  listed : (f : Fun) (name : List ℕ) → KnownIn f name → is_listed name (map (λ (h : Fun). h.name.text) (fs ++ (g ∷ []))) ≡ is_listed name (map (λ (h : Fun). h.name.text) fs)
+  listed f name k = listed_more fs g name (differ name g.name.text k.other)
 
   -- behind the function of a known name
   found : {B : Type 0} (at : Place) (name : List ℕ) {h k : Fun → Got Place B} → Known name → ((f : Fun) → Reached fs entry f → Alike (h f) (k f)) → Alike (or_wrong at (function_named (fs ++ (g ∷ [])) name) >>= h) (or_wrong at (function_named fs name) >>= k)
@@ -63,7 +71,9 @@ module _ (fs : List Fun) (g : Fun) (entry : List ℕ) (apart : IsApart fs entry 
       found at name k (λ f r. alike_both _ alike (alike_bind alike (λ env.
       alike_bind
       (alike_bind
-      (block_alike (variables_of f) (map (λ (h : Fun). h.name.text) (fs ++ (g ∷ []))) (map (λ (h : Fun). h.name.text) fs) _ _ Known listed (call_same n depth (name ∷ running)) f.body false n env (body_within f r))
+      (block_alike (variables_of f) (map (λ (h : Fun). h.name.text) (fs ++ (g ∷ []))) (map (λ (h : Fun). h.name.text) fs) _ _ (KnownIn f) (listed f)
+      (λ place callee given many free known. call_same n depth (name ∷ running) place callee given many (record { other = known.other; leads = known.leads free }))
+      f.body false n env (body_within f r))
       (λ flow. alike))
       (λ later. alike))))
 
@@ -78,7 +88,9 @@ module _ (fs : List Fun) (g : Fun) (entry : List ℕ) (apart : IsApart fs entry 
       found start entry entry_known (λ f r. alike_bind alike (λ env.
       alike_bind
       (alike_bind
-      (block_alike (variables_of f) (map (λ (h : Fun). h.name.text) (fs ++ (g ∷ []))) (map (λ (h : Fun). h.name.text) fs) _ _ Known listed (call_same n 16 (f.name.text ∷ [])) f.body false n env (body_within f r))
+      (block_alike (variables_of f) (map (λ (h : Fun). h.name.text) (fs ++ (g ∷ []))) (map (λ (h : Fun). h.name.text) fs) _ _ (KnownIn f) (listed f)
+      (λ place callee given many free known. call_same n 16 (f.name.text ∷ []) place callee given many (record { other = known.other; leads = known.leads free }))
+      f.body false n env (body_within f r))
       (λ flow. alike))
       (λ later. alike)))
 

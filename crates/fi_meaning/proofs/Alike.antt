@@ -1,5 +1,5 @@
 -- Outcomes that are the same, step by step.
-use Rattle.std.proofs.Common.{◌≡◌, refl, ℕ, zero, suc, Bool, true, false, List, [], ◌∷◌, subst}
+use Rattle.std.proofs.Common.{◌≡◌, refl, sym, ℕ, zero, suc, Bool, true, false, List, [], ◌∷◌, subst}
 use Rattle.std.specs.Prelude.{Option, Some, None}
 use Rattle.fic_base.specs.declared.place.Place.{Place}
 use Rattle.mat_ast.specs.declared.tree.BinOp.{BinOp}
@@ -36,13 +36,22 @@ unfolding choose
 alike_both true h k = h
 alike_both false h k = k
 
+-- the same, with what the test was
+pub alike_known : {A : Type 0} (b : Bool) {r s c d : Got Place A} → (b ≡ true → Alike r s) → (b ≡ false → Alike c d) → Alike (when b then r else c) (when b then s else d)
+unfolding choose
+alike_known true h k = h refl
+alike_known false h k = k refl
+
 pub alike_if : {A : Type 0} {a b : Bool} {r s c d : Got Place A} → a ≡ b → Alike r s → Alike c d → Alike (when a then r else c) (when b then s else d)
 alike_if {a = a} {r = r} {s = s} {c = c} {d = d} e h k = subst (λ t. Alike (choose a r c) (choose t s d)) e (alike_both a h k)
+
+pub alike_where : {A : Type 0} {a b : Bool} {r s c d : Got Place A} → a ≡ b → (b ≡ true → Alike r s) → Alike c d → Alike (when a then r else c) (when b then s else d)
+alike_where {b = b} {r = r} {s = s} {c = c} {d = d} e h k = subst (λ t. Alike (choose t r c) (choose b s d)) (sym e) (alike_known b h (λ f. k))
 
 pub alike_behind : (at : Place) (op : BinOp) (o : Option Bool) (x : Val) {r s : Got Place Val} → Alike r s → Alike (behind_left at op o x r) (behind_left at op o x s)
 unfolding behind_left
 alike_behind at op None x h = alike_bind h (λ y. alike)
-alike_behind at op (Some b) x h = alike_bind alike (λ t. alike_both _ alike (alike_bind h (λ y. alike_bind alike (λ u. alike))))
+alike_behind at op (Some b) x h = alike_both _ alike (alike_bind h (λ y. alike))
 
 pub alike_turned : (flow : Flow) {next later : Env → Got Place Flow} → ((env : Env) → Alike (next env) (later env)) → Alike (turned flow next) (turned flow later)
 unfolding turned

@@ -29,7 +29,7 @@ kept_if false h k = k
 kept_behind : (at : Place) (op : BinOp) (o : Option Bool) (x : Val) {r s : Got Place Val} → Kept r s → Kept (behind_left at op o x r) (behind_left at op o x s)
 unfolding behind_left
 kept_behind at op None x h = kept_bind h (λ y. same)
-kept_behind at op (Some b) x h = kept_bind same (λ t. kept_if _ same (kept_bind h (λ y. kept_bind same (λ u. same))))
+kept_behind at op (Some b) x h = kept_if _ same (kept_bind h (λ y. same))
 
 abbrev Call : Type 0
 Call = Place → List ℕ → List Val → ℕ → Got Place (List Val)

@@ -1,7 +1,8 @@
 -- What a body does, where other names are added to those of the file's functions: the same, where the names that stand in it are asked
 -- with the same answers.
-use Rattle.std.proofs.Common.{◌≡◌, refl, ap, ℕ, zero, suc, Bool, true, List, [], ◌∷◌, length}
+use Rattle.std.proofs.Common.{◌≡◌, refl, ap, ℕ, zero, suc, Bool, true, false, List, [], ◌∷◌, length}
 use Rattle.std.specs.Prelude.{◌||◌, ◌&&◌, not, bytes_eq, Option, None, codes}
+use Rattle.std.proofs.lemmas.Bool.{false≢true}
 use Rattle.fic_base.specs.declared.place.Place.{Place}
 use Rattle.mat_ast.specs.Tree.{Exp, Number, Words, Name, Apply, End, Unary, Binary, Post, Range, RangeBy, Paren, Matrix, Args, NoArgs, Whole, Item, Row, RowEnd, Cell, Rows, NoRows, RowOn, Sta, Assign, Store, Multi, IfOnly, IfElse, ForEach, WhileTrue, BreakOff, GoOn, Arms, NoArms, Arm, Block, Done, Next}
 use Rattle.fi_eval.specs.Meaning.{names_of}
@@ -13,14 +14,19 @@ use Rattle.fi_meaning.specs.Expressions.{Context, value, subscript_values, argum
 use Rattle.fi_meaning.specs.Statements.{call_outputs, output_values, run, run_arms, run_block, loop_items, condition, is_called}
 use Rattle.fi_meaning.specs.Reach.{in_expression, in_arguments, in_row, in_rows, in_statement, in_arms, in_block}
 use Rattle.fi_meaning.proofs.Names.{Within, left, right, own, same_bytes}
-use Rattle.fi_meaning.proofs.Alike.{Alike, alike, alike_gives, alike_bind, alike_both, alike_if, alike_behind, alike_then, alike_items, alike_turns}
+use Rattle.fi_meaning.proofs.Alike.{Alike, alike, alike_gives, alike_bind, alike_both, alike_known, alike_if, alike_where, alike_behind, alike_then, alike_items, alike_turns}
 
 abbrev pub Call : Type 0
 Call = Place → List ℕ → List Val → ℕ → Got Place (List Val)
 
+not_listed : (a b : Bool) → (a && not b) ≡ true → b ≡ false
+not_listed true false h = refl
+not_listed true true h = absurd (false≢true h)
+not_listed false b h = absurd (false≢true h)
+
 module _ (vars more functions : List (List ℕ)) (f g : Call) (Asked : List ℕ → Type 0)
     (listed : (name : List ℕ) → Asked name → is_listed name more ≡ is_listed name functions)
-    (calls : (at : Place) (name : List ℕ) (vs : List Val) (wanted : ℕ) → Asked name → Alike (f at name vs wanted) (g at name vs wanted)) where
+    (calls : (at : Place) (name : List ℕ) (vs : List Val) (wanted : ℕ) → is_listed name vars ≡ false → Asked name → Alike (f at name vs wanted) (g at name vs wanted)) where
   abbrev with_more : Bool → Context
   with_more b = record { variables = vars; functions = more; call = f; in_loop = b }
 
@@ -52,13 +58,13 @@ module _ (vars more functions : List (List ℕ)) (f g : Call) (Asked : List ℕ 
     value_alike (Words at text) b env ends w = alike
     value_alike (Name at name) b env ends w =
         let asked : Asked name = w name (same_bytes name) in
-        alike_both _ alike (alike_if (listed name asked) (alike_bind (calls at name [] 1 asked) (λ vs. alike)) alike)
+        alike_known _ (λ _. alike) (λ free. alike_if (listed name asked) (alike_bind (calls at name [] 1 free asked) (λ vs. alike)) alike)
     value_alike (Apply at name opens args) b env ends w =
         let asked : Asked name = own Asked name (in_arguments args) w in
         let inner : Within Asked (in_arguments args) = right Asked (λ other. bytes_eq other name) (in_arguments args) w in
-        alike_both _
-        (alike_bind (subscripts_alike args b env at _ 0 _ inner) (λ vs. alike))
-        (alike_bind (arguments_alike args b env at ends inner) (λ vs. alike_if (listed name asked) (alike_bind (calls at name _ 1 asked) (λ found. alike)) alike))
+        alike_known _
+        (λ _. alike_bind (subscripts_alike args b env at _ 0 _ inner) (λ vs. alike))
+        (λ free. alike_bind (arguments_alike args b env at ends inner) (λ vs. alike_if (listed name asked) (alike_bind (calls at name _ 1 free asked) (λ found. alike)) alike))
     value_alike (End at) b env ends w = alike
     value_alike (Unary at sign e) b env ends w = alike_bind (value_alike e b env ends w) (λ x. alike)
     value_alike (Binary at operator e d) b env ends w =
@@ -111,13 +117,13 @@ module _ (vars more functions : List (List ℕ)) (f g : Call) (Asked : List ℕ 
   unfolding call_outputs
   call_alike (Name at name) b env wanted w =
       let asked : Asked name = w name (same_bytes name) in
-      alike_if (same_called b name asked) (calls at name [] wanted asked) alike
+      alike_where (same_called b name asked) (λ called. calls at name [] wanted (not_listed (is_listed name functions) (is_listed name vars) called) asked) alike
   call_alike (Apply at name opens args) b env wanted w =
       let asked : Asked name = own Asked name (in_arguments args) w in
       let inner : Within Asked (in_arguments args) = right Asked (λ other. bytes_eq other name) (in_arguments args) w in
-      alike_both _
-      (alike_bind (subscripts_alike args b env at _ 0 _ inner) (λ vs. alike))
-      (alike_bind (arguments_alike args b env at None inner) (λ vs. alike_if (listed name asked) (calls at name _ wanted asked) alike))
+      alike_known _
+      (λ _. alike_bind (subscripts_alike args b env at _ 0 _ inner) (λ vs. alike))
+      (λ free. alike_bind (arguments_alike args b env at None inner) (λ vs. alike_if (listed name asked) (calls at name _ wanted free asked) alike))
   call_alike (Number at text imaginary) b env wanted w = alike
   call_alike (Words at text) b env wanted w = alike
   call_alike (End at) b env wanted w = alike

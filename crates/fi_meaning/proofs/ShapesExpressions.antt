@@ -8,9 +8,9 @@ use Rattle.mat_ast.specs.Tree.{Exp, Number, Words, Name, Apply, End, Unary, Bina
 use Rattle.num_type.specs.Constants.{Exact}
 use Rattle.fi_eval.specs.Outcome.{Got}
 use Rattle.fi_rules.specs.Value.{Val}
-use Rattle.fi_values.specs.Logicals.{deciding}
+use Rattle.fi_values.specs.Logicals.{deciding, scalar_truth}
 use Rattle.fi_values.specs.Sound.{IsSound, Granted, grants, at_wrong}
-use Rattle.fi_values.proofs.Holds.{granted_then, granted_wrong, granted_if, granted_any}
+use Rattle.fi_values.proofs.Holds.{Holds, holds, holds_then, holds_any, granted_then, granted_wrong, granted_if, granted_any}
 use Rattle.fi_values.proofs.Joins.{bracket_sound}
 use Rattle.fi_values.proofs.Logicals.{truth_sound}
 use Rattle.fi_values.proofs.Queries.{whole_sound}
@@ -21,7 +21,7 @@ use Rattle.fi_values.proofs.Sizes.{scalar_sized}
 use Rattle.fi_values.proofs.Transposes.{transposed_sound}
 use Rattle.fi_meaning.specs.Calls.{Argument}
 use Rattle.fi_meaning.specs.Environment.{Env}
-use Rattle.fi_meaning.specs.Expressions.{Context, is_listed, literal, only, called, behind_left, args_count, site_of, value, subscript_values, arguments, row_values, rows_values}
+use Rattle.fi_meaning.specs.Expressions.{Context, is_listed, literal, only, called, behind_left, right_decides, args_count, site_of, value, subscript_values, arguments, row_values, rows_values}
 use Rattle.fi_meaning.proofs.ShapesCalls.{IsArgument, values_sound}
 use Rattle.fi_meaning.proofs.ShapesEnvironments.{AreSound, variable_sound}
 use Rattle.fi_meaning.proofs.ShapesFunctions.{called_name_sound}
@@ -37,12 +37,15 @@ unfolding only
 only_sound at [] h = at_wrong at
 only_sound at (v ∷ vs) h = grants v h.0
 
+right_sound : (left : Option Bool) (y : Val) → Holds IsSound (right_decides left y)
+unfolding right_decides
+right_sound left y = holds_then (holds_any left) (λ t _. holds_then (holds_any (scalar_truth y)) (λ u _. holds _ (truth_sound u)))
+
 behind_left_sound : (at : Place) (op : BinOp) (o : Option Bool) (x : Val) {right : Got Place Val} → IsSound x → Granted IsSound right → Granted IsSound (behind_left at op o x right)
 unfolding behind_left
 behind_left_sound at op None x h k = granted_then k (λ y g. granted_wrong at (operator_sound op x y h g))
 behind_left_sound at op (Some b) x h k =
-    granted_then (granted_any _) (λ t _. granted_if _ (λ _. grants _ (truth_sound b)) (λ _.
-    granted_then k (λ y _. granted_then (granted_any _) (λ u _. grants _ (truth_sound u)))))
+    granted_if _ (λ _. grants _ (truth_sound b)) (λ _. granted_then k (λ y _. granted_wrong at (right_sound (scalar_truth x) y)))
 
 -- calls of the file's functions give sound values
 abbrev pub CallsSound : (Place → List ℕ → List Val → ℕ → Got Place (List Val)) → Type 0

@@ -59,16 +59,21 @@ is_word variables functions (Name at name) =
     (bytes_eq name (codes "true") || bytes_eq name (codes "false")) && not (is_listed name variables || is_listed name functions)
 is_word variables functions e = false
 
+-- whether the left operand of an operator that skips decides; one that has no truth doesn't
+unfoldable pub decided : Bool → Option Bool → Bool
+decided b None = false
+decided true (Some t) = t
+decided false (Some t) = not t
+
+-- both operands of an operator that skips have a truth, and the left one hasn't decided
+unfoldable pub right_decides : Option Bool → Val → Option Val
+right_decides left y = left |> (λ t. scalar_truth y |> (λ u. Some (truth_value u)))
+
 -- goes on from the left operand of an operator: it may decide alone
 unfoldable pub behind_left : Place → BinOp → Option Bool → Val → Got Place Val → Got Place Val
 behind_left at o None x right = right >>= (λ y. or_wrong at (by_operator o x y))
 behind_left at o (Some b) x right =
-    or_wrong at (scalar_truth x)
-    >>= (λ t. when same t b then Gives (truth_value b) else (right >>= (λ y. or_wrong at (scalar_truth y) >>= (λ u. Gives (truth_value u)))))
-  where
-    same : Bool → Bool → Bool
-    same true c = c
-    same false c = not c
+    when decided b (scalar_truth x) then Gives (truth_value b) else (right >>= (λ y. or_wrong at (right_decides (scalar_truth x) y)))
 
 abbrev pub args_count : Args → ℕ
 args_count NoArgs = 0

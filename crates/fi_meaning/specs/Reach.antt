@@ -1,7 +1,7 @@
 -- Where names stand, and which functions of a file an entry reaches.
 use Rattle.std.specs.Prelude.{◌≡◌, ℕ, Bool, true, false, ◌||◌, List, Some, bytes_eq}
 use Rattle.mat_ast.specs.Tree.{Exp, Number, Words, Name, Apply, End, Unary, Binary, Post, Range, RangeBy, Paren, Matrix, Args, NoArgs, Whole, Item, Row, RowEnd, Cell, Rows, NoRows, RowOn, Sta, Assign, Store, Multi, IfOnly, IfElse, ForEach, WhileTrue, BreakOff, GoOn, Arms, NoArms, Arm, Block, Done, Next, Fun}
-use Rattle.fi_eval.specs.Meaning.{function_named, names_of}
+use Rattle.fi_eval.specs.Meaning.{function_named, names_of, variables_of}
 use Rattle.fi_meaning.specs.Expressions.{is_listed}
 
 -- ---- where a name stands
@@ -63,10 +63,10 @@ in_function f name =
 
 -- ---- what an entry reaches
 
--- the entry's function, and the functions whose names stand in one that is reached
+-- the entry's function, and those that one that is reached may call: their names stand in it and are none of its variables
 pub data Reached (fs : List Fun) (entry : List ℕ) : Fun → Type 0 where
   Itself : (f : Fun) → function_named fs entry ≡ Some f → Reached fs entry f
-  Onward : (f g : Fun) (name : List ℕ) → Reached fs entry f → in_function f name ≡ true → function_named fs name ≡ Some g → Reached fs entry g
+  Onward : (f g : Fun) (name : List ℕ) → Reached fs entry f → in_function f name ≡ true → is_listed name (variables_of f) ≡ false → function_named fs name ≡ Some g → Reached fs entry g
 
 -- a name that isn't the entry's and stands in no function that the entry reaches
 pub record IsApart (fs : List Fun) (entry name : List ℕ) : Type 0 where

@@ -15,7 +15,7 @@ use Rattle.fi_values.specs.Reads.{shape_of}
 use Rattle.fi_values.specs.Subscripts.{extent}
 use Rattle.eval_call.specs.View.{argument_view}
 use Rattle.eval_source.proofs.Lists.{goes, stops, subscript_first, none_passed, argument_goes, argument_first, onward}
-use Rattle.eval_source.proofs.Steps.{stepped, plain_told, skipping_told, skip_stops, skip_decided, skip_right, item_stops, item_passes, item_all}
+use Rattle.eval_source.proofs.Steps.{stepped, plain_told, skipping_told, skip_decided, skip_right, item_stops, item_passes, item_all}
 use Rattle.eval_source.proofs.expressions.+evaluate.Goals as goal
 
 pub behind_left-returns-in-None : goal.behind_left-returns-in-None
@@ -47,21 +47,15 @@ pub item-returns-in_ok-v-in-Item : goal.item-returns-in_ok-v-in-Item
 item-returns-in_ok-v-in-Item g t c =
     item_passes c.args.arg.now c.in-Item.e (value_view c.in_ok-v-in-Item.v) (context_of c.args.scope.now (g.C.Caller.called c.args.caller.now)) (env_view c.args.names.now) c.args.ends c.in-Item.is c.in_ok-v-in-Item.ensures
 
-pub skipping-returns-in_err-truth : goal.skipping-returns-in_err-truth
-skipping-returns-in_err-truth g t c =
-    let p = err_from_is_err_and c.from_residual.result c.from_residual.ensures.1 in
-    rw (p.1, p.2) (skip_stops c.in_err-truth.field-0.0 c.args.at c.args.op c.args.deciding (value_view c.args.left) (meaning.value (expr_view c.args.right.now) (context_of c.args.scope.now (g.C.Caller.called c.args.caller.now)) (env_view c.args.names.now) c.args.ends)
-    c.in_err-truth.ensures)
+pub skipping-returns-then-has_decided : goal.skipping-returns-then-has_decided
+skipping-returns-then-has_decided g t c =
+    skip_decided c.made_truth.result c.args.at c.args.op c.args.deciding c.has_decided.result c.truth_in-truth.result (value_view c.args.left) (meaning.value (expr_view c.args.right.now) (context_of c.args.scope.now (g.C.Caller.called c.args.caller.now)) (env_view c.args.names.now) c.args.ends)
+    c.truth_in-truth.ensures c.has_decided.ensures c.if-has_decided.true c.made_truth.ensures
 
-pub skipping-returns-then-is_same : goal.skipping-returns-then-is_same
-skipping-returns-then-is_same g t c =
-    skip_decided c.made_truth.result c.args.at c.args.op c.args.deciding c.in_ok-truth.truth c.is_same.result (value_view c.args.left) (meaning.value (expr_view c.args.right.now) (context_of c.args.scope.now (g.C.Caller.called c.args.caller.now)) (env_view c.args.names.now) c.args.ends)
-    c.in_ok-truth.ensures c.is_same.ensures c.if-is_same.true c.made_truth.ensures
-
-pub skipping-returns-else-is_same : goal.skipping-returns-else-is_same
-skipping-returns-else-is_same g t c =
-    skip_right c.deciding_right.result c.args.at c.args.op c.args.deciding c.in_ok-truth.truth c.is_same.result (value_view c.args.left) (meaning.value (expr_view c.args.right.now) (context_of c.args.scope.now (g.C.Caller.called c.args.caller.now)) (env_view c.args.names.now) c.args.ends)
-    c.in_ok-truth.ensures c.is_same.ensures c.if-is_same.false c.deciding_right.ensures
+pub skipping-returns-else-has_decided : goal.skipping-returns-else-has_decided
+skipping-returns-else-has_decided g t c =
+    skip_right c.deciding_right.result c.args.at c.args.op c.args.deciding c.has_decided.result c.truth_in-truth.result (value_view c.args.left) (meaning.value (expr_view c.args.right.now) (context_of c.args.scope.now (g.C.Caller.called c.args.caller.now)) (env_view c.args.names.now) c.args.ends)
+    c.truth_in-truth.ensures c.has_decided.ensures c.if-has_decided.false c.deciding_right.ensures
 
 pub arguments-loop-arg-init : goal.arguments-loop-arg-init
 arguments-loop-arg-init g t c =
