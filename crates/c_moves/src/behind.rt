@@ -33,6 +33,7 @@ fn refuse_behind(e: CExpr, pending: Pending) -> Option<Reader>
 fn refuse_in(e: CExpr, frame: Frame, pending: Pending) -> Option<Reader>
     ensures { Goes result Stuck }
 {
+    drop(frame);
     refuse_behind(e, pending)
 }
 
@@ -40,6 +41,8 @@ fn refuse_in(e: CExpr, frame: Frame, pending: Pending) -> Option<Reader>
 fn refuse_test(test: CTest, frame: Frame, pending: Pending) -> Option<Reader>
     ensures { Goes result Stuck }
 {
+    drop(test);
+    drop(frame);
     refuse(pending)
 }
 
@@ -205,6 +208,9 @@ fn test_in(
 fn refuse_whole(test: CTest, purpose: Purpose, past: Past) -> Option<Reader>
     ensures { Goes result Stuck }
 {
+    drop(test);
+    drop(purpose);
+    drop(past);
     None
 }
 

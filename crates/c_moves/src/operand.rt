@@ -63,7 +63,7 @@ fn without_top(pending: Pending) -> Pending
         past,
     } = pending;
     let mut frames = frames;
-    let _top = pop(&mut frames);
+    drop(pop(&mut frames));
     Pending {
         frames,
         purpose,
@@ -213,6 +213,7 @@ fn closed(alloc: Global, reading: Reading) -> Result<Option<Reader>, Memory>
 
 /// A refusal, which ends what was read.
 fn given_up(reading: Reading, error: Memory) -> Memory {
+    drop(reading);
     error
 }
 

@@ -1,3 +1,4 @@
 pub mod Part
 pub mod Shapes
 pub mod Operators
+pub mod Beside

@@ -1,6 +1,7 @@
 //! C expressions that compute operations on fixed-point numbers exactly and reach nothing undefined.
 #![tactic(auto)]
 
+mod beside;
 mod fits;
 mod numbers;
 mod parts;

@@ -6,6 +6,7 @@ ghost use Rattle.c_tree.specs.View.{expr_view};
 ghost use Rattle.lower_scalar.specs.Part.{part_view, reach, Quantises};
 ghost use Rattle.lower_scalar.specs.Shapes;
 
+use crate::beside::beside;
 use crate::fits::fit;
 use crate::numbers::gap;
 use crate::parts::{alone, over_one, over_three, over_two};
@@ -77,11 +78,13 @@ fn raised_part(
         let p = raised_alone(alloc, t, from, e, n)?;
         Ok(p)
     } else if n == 0 {
-        let value = fit(alloc, action, t.signed(), t.word(), from.signed(), fresh)?;
+        let value = fit(alloc, action, t.signed(), t.word(), from.signed(), fresh);
+        let (value, e) = beside(value, e)?;
         let p = over_one(alloc, from.signed(), e, fresh, value)?;
         Ok(p)
     } else {
-        let value = raise_fit(alloc, action, t.signed(), t.word(), from.signed(), fresh, n)?;
+        let value = raise_fit(alloc, action, t.signed(), t.word(), from.signed(), fresh, n);
+        let (value, e) = beside(value, e)?;
         let p = over_one(alloc, from.signed(), e, fresh, value)?;
         Ok(p)
     }
@@ -115,14 +118,17 @@ fn lowered_part(
 {
     let signed = from.signed();
     if k < 64 {
-        let floor = floor_shift(alloc, signed, fresh, k)?;
-        let rounded = round_shift(alloc, method, signed, fresh, fresh + 1, k)?;
-        let value = fit(alloc, action, t.signed(), t.word(), signed, fresh + 2)?;
+        let (floor, e) = beside(floor_shift(alloc, signed, fresh, k), e)?;
+        let rounded = round_shift(alloc, method, signed, fresh, fresh + 1, k);
+        let (rounded, (floor, e)) = beside(rounded, (floor, e))?;
+        let value = fit(alloc, action, t.signed(), t.word(), signed, fresh + 2);
+        let (value, (rounded, (floor, e))) = beside(value, (rounded, (floor, e)))?;
         let p = over_three(alloc, signed, e, fresh, floor, rounded, value)?;
         Ok(p)
     } else {
-        let rounded = round_far(alloc, method, signed, fresh, k)?;
-        let value = fit(alloc, action, t.signed(), t.word(), signed, fresh + 1)?;
+        let (rounded, e) = beside(round_far(alloc, method, signed, fresh, k), e)?;
+        let value = fit(alloc, action, t.signed(), t.word(), signed, fresh + 1);
+        let (value, (rounded, e)) = beside(value, (rounded, e))?;
         let p = over_two(alloc, signed, e, fresh, rounded, value)?;
         Ok(p)
     }

@@ -51,8 +51,13 @@ fn row_end(
 ) -> Result<Option<Reading>, AllocError>
     ensures { IfOk result (λ next. Goes next (Between opens (with_row (rows_view grid.rows) (cells_view line.cells)) (stack_of pending.frames) (purpose_view pending.purpose))) }
 {
-    let grid = and_row(grid, line)?;
-    Ok(Some(Reading::Between(opens, grid, pending)))
+    match and_row(grid, line) {
+        Ok(grid) => Ok(Some(Reading::Between(opens, grid, pending))),
+        Err(error) => {
+            drop(pending);
+            Err(error)
+        }
+    }
 }
 
 /// A row ends with its bracket.
@@ -64,8 +69,13 @@ fn last_row(
 ) -> Result<Option<Reading>, AllocError>
     ensures { IfOk result (λ next. Goes next (Have (Matrix opens (with_row (rows_view grid.rows) (cells_view line.cells))) (stack_of pending.frames) (purpose_view pending.purpose))) }
 {
-    let grid = and_row(grid, line)?;
-    shut(opens, grid, pending)
+    match and_row(grid, line) {
+        Ok(grid) => shut(opens, grid, pending),
+        Err(error) => {
+            drop(pending);
+            Err(error)
+        }
+    }
 }
 
 /// What comes at a word between the rows of a bracket. Want of memory is its only refusal.
@@ -107,7 +117,11 @@ pub fn bare(
         Word::Semicolon => Ok(Some(Reading::Between(opens, grid, pending))),
         Word::Newline => Ok(Some(Reading::Between(opens, grid, pending))),
         Word::CloseSquare => shut(opens, grid, pending),
-        _ => Ok(None),
+        _ => {
+            drop(grid);
+            drop(pending);
+            Ok(None)
+        }
     }
 }
 
@@ -157,6 +171,11 @@ pub fn celled(
         Word::Semicolon => row_end(opens, grid, line, pending),
         Word::Newline => row_end(opens, grid, line, pending),
         Word::CloseSquare => last_row(opens, grid, line, pending),
-        _ => Ok(None),
+        _ => {
+            drop(grid);
+            drop(line);
+            drop(pending);
+            Ok(None)
+        }
     }
 }

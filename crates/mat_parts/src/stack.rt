@@ -143,6 +143,11 @@ pub fn wait(pending: Pending, frame: Frame) -> Result<Option<Reading>, AllocErro
 {
     let Pending { frames, purpose } = pending;
     let mut frames = frames;
-    push(&mut frames, frame)?;
-    Ok(Some(Reading::Need(Pending { frames, purpose })))
+    match push(&mut frames, frame) {
+        Ok(_) => Ok(Some(Reading::Need(Pending { frames, purpose }))),
+        Err(e) => {
+            drop(purpose);
+            Err(e)
+        }
+    }
 }
