@@ -32,7 +32,8 @@ use Rattle.fi_cli.specs.Source.{num_types, IsWalk, IsRefusal}
 use Rattle.fi_cli.specs.Results.{AreResults}
 use Rattle.fi_cli.specs.Commands as made
 use Rattle.fi_cli.specs.Commands.{Bad, BadSource, BadText, BadCases, files, AreRefused, IsRefusedBy, AllTold, AreContents}
-use Rattle.fi_cli.specs.Causes.{ShelfSide, SinkSide, Cause, Refused, Unread, Wanting, Formless, status_of, Stands, AsksFor, IsDone, IsTold, OutFailed, ErrFailed, Says}
+use Rattle.fi_cli.specs.Causes.{ShelfSide, SinkSide, Cause, Refused, Unread, Wanting, Formless, status_of, Stands, AsksFor, IsDone, IsTold, OutFailed, ErrFailed, GainsOrFails, Says}
+use Rattle.fi_cli.specs.Lines.{write_line}
 use Rattle.fi_cli.specs.Answers.{Serves, Whole, IsOr4, Answers}
 
 -- Forms
@@ -120,6 +121,9 @@ all_told told (name ∷ names) (bytes ∷ contents) P are h =
 
 -- Statuses
 
+rose : (before now : ℕ) → io.RoseByOne before now → io.Rose before now
+rose before now h = omega (arith, h.0)
+
 refused_stands : (words : List (List ℕ)) (shelf : ShelfSide) (bad : Bad) → Stands (Refused bad) words shelf → Serves words shelf (λ c contents. (b : Bad) → IsRefusedBy b c contents → ⊥) → ⊥
 refused_stands words shelf bad s serves =
     let at = serves.told s.command s.form in
@@ -128,14 +132,14 @@ refused_stands words shelf bad s serves =
 told_carries_out : (status : ℕ) (words : List (List ℕ)) (shelf : ShelfSide) (out err : SinkSide) (cause : Cause) → Stands cause words shelf → status ≡ status_of cause → Whole shelf out err
     → Serves words shelf (λ c contents. (b : Bad) → IsRefusedBy b c contents → ⊥) → IsOr4 status 0
 told_carries_out status words shelf out err (Refused bad) s e whole serves = absurd (refused_stands words shelf bad s serves)
-told_carries_out status words shelf out err (Unread name) s e whole serves = absurd (whole.read s.holds.2)
+told_carries_out status words shelf out err (Unread name) s e whole serves = absurd (whole.read (rose shelf.before shelf.now s.holds.2))
 told_carries_out status words shelf out err Wanting s e whole serves = inr e
 told_carries_out status words shelf out err (Formless n) s e whole serves = absurd (formed words n serves.form.command serves.form.form s)
 
 told_refuses : (status : ℕ) (words : List (List ℕ)) (shelf : ShelfSide) (out err : SinkSide) (cause : Cause) → Stands cause words shelf → status ≡ status_of cause → Whole shelf out err
     → AsksFor words (λ c. Unit {0}) → IsOr4 status 1
 told_refuses status words shelf out err (Refused bad) s e whole form = inl e
-told_refuses status words shelf out err (Unread name) s e whole form = absurd (whole.read s.holds.2)
+told_refuses status words shelf out err (Unread name) s e whole form = absurd (whole.read (rose shelf.before shelf.now s.holds.2))
 told_refuses status words shelf out err Wanting s e whole form = inr e
 told_refuses status words shelf out err (Formless n) s e whole form = absurd (formed words n form.command form.form s)
 
@@ -147,8 +151,8 @@ told_forms status words shelf (Formless m) n s e at = inl e
 
 -- no part of bytes was written where nothing failed
 no_part : (words : List (List ℕ)) (shelf : ShelfSide) (out err : SinkSide) → OutFailed words shelf out err ⊎ ErrFailed words shelf out err → Whole shelf out err → ⊥
-no_part words shelf out err (inl f) whole = whole.written f.part.rose
-no_part words shelf out err (inr f) whole = whole.told f.part.rose
+no_part words shelf out err (inl f) whole = whole.written (rose out.before out.now f.part.rose)
+no_part words shelf out err (inr f) whole = whole.told (rose err.before err.now f.part.rose)
 
 done_not_refused : TextLaws → (words : List (List ℕ)) (shelf : ShelfSide) (out err : SinkSide) → IsDone words shelf out err → Serves words shelf (λ c contents. (bad : Bad) × IsRefusedBy bad c contents) → ⊥
 done_not_refused laws words shelf out err done serves =
@@ -180,3 +184,23 @@ says_answers laws (suc (suc (suc zero))) words shelf out err failed = record {
 says_answers laws (suc zero) words shelf out err t = told_answers 1 words shelf out err t
 says_answers laws (suc (suc zero)) words shelf out err t = told_answers 2 words shelf out err t
 says_answers laws (suc (suc (suc (suc n)))) words shelf out err t = told_answers (suc (suc (suc (suc n)))) words shelf out err t
+
+-- no count of a sink falls
+
+part_rises : (s : SinkSide) (bytes : List ℕ) → GainsOrFails s bytes → s.before ≤ s.now
+part_rises s bytes (inl h) = let e = h.1 in omega arith
+part_rises s bytes (inr h) = h.rose.1
+
+told_rises : (status : ℕ) (words : List (List ℕ)) (shelf : ShelfSide) (out err : SinkSide) → IsTold status words shelf out err → (out.before ≤ out.now) × (err.before ≤ err.now)
+told_rises status words shelf out err t = let e = t.unchanged.1 in let f = t.gained.1 in (omega arith, omega arith)
+
+failed_rises : (words : List (List ℕ)) (shelf : ShelfSide) (out err : SinkSide) → OutFailed words shelf out err ⊎ ErrFailed words shelf out err → (out.before ≤ out.now) × (err.before ≤ err.now)
+failed_rises words shelf out err (inl f) = (f.part.rose.1, part_rises err write_line f.told)
+failed_rises words shelf out err (inr f) = let e = f.unchanged.1 in (omega arith, f.part.rose.1)
+
+pub says_rises : (status : ℕ) (words : List (List ℕ)) (shelf : ShelfSide) (out err : SinkSide) → Says status words shelf out err → (out.before ≤ out.now) × (err.before ≤ err.now)
+says_rises zero words shelf out err done = let e = done.gained.1 in let f = done.quiet.1 in (omega arith, omega arith)
+says_rises (suc (suc (suc zero))) words shelf out err failed = failed_rises words shelf out err failed
+says_rises (suc zero) words shelf out err t = told_rises 1 words shelf out err t
+says_rises (suc (suc zero)) words shelf out err t = told_rises 2 words shelf out err t
+says_rises (suc (suc (suc (suc n)))) words shelf out err t = told_rises (suc (suc (suc (suc n)))) words shelf out err t

@@ -7,7 +7,7 @@ use Rattle.fic_io.specs.Causes.{Told, appended}
 use Rattle.fi_cli.specs.Gains.{GainsPart}
 use Rattle.fi_cli.specs.Forms.{Command, Compile, IsForm}
 use Rattle.fi_cli.specs.Commands.{Bad, BadSource}
-use Rattle.fi_cli.specs.Causes.{ShelfSide, SinkSide, Cause, Refused, Unread, Wanting, Formless, status_of, line_of, StandsAt, Stands, IsAsked, GainsOrFails, Says}
+use Rattle.fi_cli.specs.Causes.{ShelfSide, SinkSide, Cause, Refused, Unread, Wanting, Formless, status_of, line_of, StandsAt, Stands, IsAsked, Gained, Rests, GainsOrFails, Says}
 use Rattle.num_type.specs.declared.memory.Stop.{Stop}
 use Rattle.num_type.specs.declared.memory.Stop.TheVariants as stop
 use Rattle.fic_base.specs.declared.refusal.Refusal.{Refusal}
@@ -19,23 +19,23 @@ pub told_map : {A : Type 0} (o : Option A) (P Q : A → Type 0) → ((a : A) →
 told_map None P Q f h = tt
 told_map (Some a) P Q f h = f a h
 
-pub gains : (r : Result (Unit {0}) Failed) (s : SinkSide) (bytes : List ℕ) → OnOk r (s.new ≡ appended s.old bytes) → OnErr r (GainsPart s.before s.now s.old s.new bytes) → GainsOrFails s bytes
-gains (Ok u) s bytes ok bad = inl ok
-gains (Err e) s bytes ok bad = inr bad
+pub gains : (r : Result (Unit {0}) Failed) (s : SinkSide) (bytes : List ℕ) → OnOk r (s.new ≡ appended s.old bytes) → OnOk r (s.now ≡ s.before) → OnErr r (GainsPart s.before s.now s.old s.new bytes) → GainsOrFails s bytes
+gains (Ok u) s bytes ok count bad = inl (ok, count)
+gains (Err e) s bytes ok count bad = inr bad
 
 -- a line of a cause that stands was put, or failed
-line_put : (result : ℕ) (cause : Cause) (words : List (List ℕ)) (shelf : ShelfSide) (out err : SinkSide) → Stands cause words shelf → out.new ≡ out.old → PutsLine result (status_of cause) (line_of cause) err → Says result words shelf out err
+line_put : (result : ℕ) (cause : Cause) (words : List (List ℕ)) (shelf : ShelfSide) (out err : SinkSide) → Stands cause words shelf → Rests out → PutsLine result (status_of cause) (line_of cause) err → Says result words shelf out err
 line_put result cause words shelf out err stands same (inr p) =
     subst (λ (n : ℕ). Says n words shelf out err) (sym p.0) (inr (record { cause = cause; stands = stands; part = p.1; unchanged = same }))
 line_put result cause words shelf out err stands same (inl p) = subst (λ (n : ℕ). Says n words shelf out err) (sym p.0) (by cause stands p.1)
   where
-    by : (c : Cause) → Stands c words shelf → err.new ≡ appended err.old (line_of c) → Says (status_of c) words shelf out err
+    by : (c : Cause) → Stands c words shelf → Gained err (line_of c) → Says (status_of c) words shelf out err
     by (Refused bad) s g = record { cause = Refused bad; stands = s; is_status = refl; gained = g; unchanged = same }
     by (Unread name) s g = record { cause = Unread name; stands = s; is_status = refl; gained = g; unchanged = same }
     by Wanting s g = record { cause = Wanting; stands = s; is_status = refl; gained = g; unchanged = same }
     by (Formless n) s g = record { cause = Formless n; stands = s; is_status = refl; gained = g; unchanged = same }
 
-pub cause_told : (result : ℕ) (cause : Cause) (words : List (List ℕ)) (shelf : ShelfSide) (out err : SinkSide) → Stands cause words shelf → out.new ≡ out.old → TellsCause result cause err → Says result words shelf out err
+pub cause_told : (result : ℕ) (cause : Cause) (words : List (List ℕ)) (shelf : ShelfSide) (out err : SinkSide) → Stands cause words shelf → Rests out → TellsCause result cause err → Says result words shelf out err
 cause_told result cause words shelf out err stands same (inl p) = line_put result cause words shelf out err stands same p
 cause_told result cause words shelf out err stands same (inr p) = line_put result Wanting words shelf out err tt same p
 

@@ -1,6 +1,17 @@
 -- What each status of a call says.
+--
+-- | Status | Says |
+-- |---|---|
+-- | 0 | the output gained what the words ask for, and the error stream nothing (IsDone) |
+-- | 1 | what was read is refused, which the error stream was told (IsTold, Refused) |
+-- | 2 | a file could not be read (IsTold, Unread) |
+-- | 3 | a sink failed: the output in what the words ask for (OutFailed), or the error stream in its line (ErrFailed) |
+-- | 4 | memory is wanting (IsTold, Wanting) |
+-- | 5 | the words have no form (IsTold, Formless) |
+--
+-- Wherever another status than 3 comes, no put failed: the counts of faults of both sinks are as before.
 use Rattle.std.specs.Prelude.{◌≡◌, ◌⊎◌, ℕ, zero, suc, List, Option}
-use Rattle.fic_io.specs.Causes.{Rose, appended}
+use Rattle.fic_io.specs.Causes.{RoseByOne, appended}
 use Rattle.fi_cli.specs.Forms.{Command, IsForm, IsBadAt}
 use Rattle.fi_cli.specs.Commands.{Bad, BadSource, BadText, BadCases, files, IsRefusedBy, Gives, AllTold, IsOneOf}
 use Rattle.fi_cli.specs.Lines.{refusal_line, text_line, case_line, read_line, word_line, memory_line, write_line}
@@ -53,7 +64,7 @@ line_of (Formless n) = word_line n
 -- the cause stands at this command
 abbrev pub StandsAt : Cause → Command → ShelfSide → Type 0
 StandsAt (Refused bad) c shelf = AllTold shelf.told (files c) (IsRefusedBy bad c)
-StandsAt (Unread name) c shelf = IsOneOf name (files c) × (shelf.last ≡ name) × Rose shelf.before shelf.now
+StandsAt (Unread name) c shelf = IsOneOf name (files c) × (shelf.last ≡ name) × RoseByOne shelf.before shelf.now
 StandsAt Wanting c shelf = Unit {0}
 StandsAt (Formless n) c shelf = ⊥
 
@@ -77,24 +88,32 @@ Yields c shelf bytes = AllTold shelf.told (files c) (λ contents. Gives c conten
 abbrev pub IsAsked : List (List ℕ) → ShelfSide → List ℕ → Type 0
 IsAsked words shelf bytes = AsksFor words (λ c. Yields c shelf bytes)
 
+-- a sink gained these bytes, and no put failed
+abbrev pub Gained : SinkSide → List ℕ → Type 0
+Gained s bytes = (s.new ≡ appended s.old bytes) × (s.now ≡ s.before)
+
+-- a sink gained nothing, and no put failed
+abbrev pub Rests : SinkSide → Type 0
+Rests s = (s.new ≡ s.old) × (s.now ≡ s.before)
+
 -- the output gained such bytes, and the error stream nothing
 pub record IsDone (words : List (List ℕ)) (shelf : ShelfSide) (out err : SinkSide) : Type 0 where
   pub text : List ℕ
   pub asked : IsAsked words shelf text
-  pub gained : out.new ≡ appended out.old text
-  pub quiet : err.new ≡ err.old
+  pub gained : Gained out text
+  pub quiet : Rests err
 
 -- the error stream gained the line of a cause that stands, and the output nothing
 pub record IsTold (status : ℕ) (words : List (List ℕ)) (shelf : ShelfSide) (out err : SinkSide) : Type 0 where
   pub cause : Cause
   pub stands : Stands cause words shelf
   pub is_status : status ≡ status_of cause
-  pub gained : err.new ≡ appended err.old (line_of cause)
-  pub unchanged : out.new ≡ out.old
+  pub gained : Gained err (line_of cause)
+  pub unchanged : Rests out
 
 -- a sink gained these bytes, or it failed and gained a part of them from their front
 abbrev pub GainsOrFails : SinkSide → List ℕ → Type 0
-GainsOrFails s bytes = (s.new ≡ appended s.old bytes) ⊎ GainsPart s.before s.now s.old s.new bytes
+GainsOrFails s bytes = Gained s bytes ⊎ GainsPart s.before s.now s.old s.new bytes
 
 -- the output failed in bytes that the words ask for
 pub record OutFailed (words : List (List ℕ)) (shelf : ShelfSide) (out err : SinkSide) : Type 0 where
@@ -108,7 +127,7 @@ pub record ErrFailed (words : List (List ℕ)) (shelf : ShelfSide) (out err : Si
   pub cause : Cause
   pub stands : Stands cause words shelf
   pub part : GainsPart err.before err.now err.old err.new (line_of cause)
-  pub unchanged : out.new ≡ out.old
+  pub unchanged : Rests out
 
 -- what a status says
 abbrev pub Says : ℕ → List (List ℕ) → ShelfSide → SinkSide → SinkSide → Type 0

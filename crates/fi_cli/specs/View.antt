@@ -1,6 +1,6 @@
 -- What answers of the code say.
 use Rattle.std.specs.Prelude.{◌≡◌, ◌⊎◌, ℕ, List, [], ◌∷◌, false}
-use Rattle.fic_io.specs.Causes.{Rose, appended}
+use Rattle.fic_io.specs.Causes.{RoseByOne}
 use Rattle.shape_rules.specs.declared.declared.Declared.{Declared}
 use Rattle.shape_rules.specs.Declarations.{IsScalar}
 use Rattle.fi_cli.specs.declared.call.Fault.{Fault}
@@ -11,7 +11,7 @@ use Rattle.c_read.specs.Program.{IsRefusal}
 use Rattle.fi_cli.specs.declared.results.RunStop.{RunStop}
 use Rattle.fi_cli.specs.declared.results.RunStop.TheVariants as run
 use Rattle.fi_cli.specs.Commands.{BadSource, BadText, BadCases, AreRefused}
-use Rattle.fi_cli.specs.Causes.{Cause, Refused, Unread, Wanting, Formless, SinkSide, GainsOrFails, status_of, line_of}
+use Rattle.fi_cli.specs.Causes.{Cause, Refused, Unread, Wanting, Formless, SinkSide, Gained, Rests, GainsOrFails, status_of, line_of}
 use Rattle.fi_cli.specs.declared.words.Command as code
 use Rattle.fi_cli.specs.declared.words.Command.TheVariants as command
 use Rattle.fi_cli.specs.declared.words.TypeWords.{TypeWords}
@@ -73,20 +73,20 @@ HasScalars (Run file cases turns) = Unit {0}
 
 -- why a file isn't read: it failed, which was counted, or memory is wanting
 abbrev pub IsUnread : Cause → List ℕ → ℕ → ℕ → List ℕ → Type 0
-IsUnread (Unread name) file before now last = (name ≡ file) × (last ≡ file) × Rose before now
+IsUnread (Unread name) file before now last = (name ≡ file) × (last ≡ file) × RoseByOne before now
 IsUnread Wanting file before now last = Unit {0}
 IsUnread _ file before now last = ⊥
 
 -- the text was written, with the status 0, or the output failed, with the status 3
 abbrev pub Delivers : ℕ → List ℕ → SinkSide → SinkSide → Type 0
 Delivers status text out err =
-    ((status ≡ 0) × (out.new ≡ appended out.old text) × (err.new ≡ err.old))
+    ((status ≡ 0) × Gained out text × Rests err)
     ⊎ ((status ≡ 3) × GainsPart out.before out.now out.old out.new text × GainsOrFails err write_line)
 
 -- the line was written, with this status, or the stream failed, with the status 3
 abbrev pub PutsLine : ℕ → ℕ → List ℕ → SinkSide → Type 0
 PutsLine result status line err =
-    ((result ≡ status) × (err.new ≡ appended err.old line)) ⊎ ((result ≡ 3) × GainsPart err.before err.now err.old err.new line)
+    ((result ≡ status) × Gained err line) ⊎ ((result ≡ 3) × GainsPart err.before err.now err.old err.new line)
 
 -- the cause was told, or want of memory
 abbrev pub TellsCause : ℕ → Cause → SinkSide → Type 0

@@ -1,6 +1,6 @@
 //! The top call.
 
-ghost use Rattle.std.specs.Prelude.{◌≡◌, IfOk, IfErr, map, string_bytes};
+ghost use Rattle.std.specs.Prelude.{◌≡◌, ◌≤◌, IfOk, IfErr, map, string_bytes};
 ghost use Rattle.fi_cli.specs.Answers.{Answers};
 ghost use Rattle.fi_cli.specs.Causes.{ShelfSide, SinkSide, Formless, Stands, IsAsked, Says, status_of, line_of};
 ghost use Rattle.fi_cli.specs.View.{cause_view, StopIs, Delivers, PutsLine, TellsCause};
@@ -51,7 +51,8 @@ pub enum Fault<'a> {
 /// | `compile FILE ENTRY TYPE ..` | the text of the entry's program in C |
 /// | `run CFILE CASES TURNS` | a line for each case: what the program of the C text comes to |
 ///
-/// After the statuses 1, 2, 4 and 5 `out` is as before; after 3 it gained a part of the bytes from their front.
+/// After the statuses 1, 2, 4 and 5 `out` is as before; after 3 it gained a part of the bytes from their front. Wherever another status than
+/// 3 comes no put failed. What the shelf tells stays as it is, and its count of faults never falls.
 pub fn top<S: Shelf, O: Sink, E: Sink, G: Gate>(
     alloc: Global,
     words: &[String],
@@ -68,6 +69,9 @@ pub fn top<S: Shelf, O: Sink, E: Sink, G: Gate>(
         (record { told = S.told shelf.old; before = S.faults shelf.old; now = S.faults shelf.new; last = S.last shelf.new })
         (record { old = O.taken out.old; new = O.taken out.new; before = O.faults out.old; now = O.faults out.new })
         (record { old = E.taken err.old; new = E.taken err.new; before = E.faults err.old; now = E.faults err.new }) }
+    ensures keeps { S.told shelf.new ≡ S.told shelf.old }
+    ensures rises { S.faults shelf.old ≤ S.faults shelf.new }
+    ensures counts { (O.faults out.old ≤ O.faults out.new) × (E.faults err.old ≤ E.faults err.new) }
 {
     one_answer();
     let answered = serve(alloc, words, shelf, out, err);
@@ -82,10 +86,12 @@ fn serve<S: Shelf, O: Sink, E: Sink>(
     out: &mut O,
     err: &mut E,
 ) -> u8
-    ensures { Says result (map string_bytes words.now)
+    ensures says { Says result (map string_bytes words.now)
         (record { told = S.told shelf.old; before = S.faults shelf.old; now = S.faults shelf.new; last = S.last shelf.new })
         (record { old = O.taken out.old; new = O.taken out.new; before = O.faults out.old; now = O.faults out.new })
         (record { old = E.taken err.old; new = E.taken err.new; before = E.faults err.old; now = E.faults err.new }) }
+    ensures keeps { S.told shelf.new ≡ S.told shelf.old }
+    ensures rises { S.faults shelf.old ≤ S.faults shelf.new }
 {
     match carry_out(alloc, words, shelf) {
         Ok(text) => deliver(out, err, text.as_slice()),
@@ -103,6 +109,8 @@ fn carry_out<'a, S: Shelf>(
         (record { told = S.told shelf.old; before = S.faults shelf.old; now = S.faults shelf.new; last = S.last shelf.new }) text.items) }
     ensures cause { IfErr result (λ fault. Stands (cause_view fault) (map string_bytes words.now)
         (record { told = S.told shelf.old; before = S.faults shelf.old; now = S.faults shelf.new; last = S.last shelf.new })) }
+    ensures keeps { S.told shelf.new ≡ S.told shelf.old }
+    ensures rises { S.faults shelf.old ≤ S.faults shelf.new }
 {
     match read_words(alloc, words) {
         Ok(command) => obey(alloc, command, shelf),

@@ -1,6 +1,6 @@
 //! What commands give.
 
-ghost use Rattle.std.specs.Prelude.{◌≡◌, ◌↔◌, length, IsTrue, IfOk, IfErr, OnOk};
+ghost use Rattle.std.specs.Prelude.{◌≡◌, ◌≤◌, ◌↔◌, length, IsTrue, IfOk, IfErr, OnOk};
 ghost use Rattle.fic_io.specs.Causes.{Told};
 ghost use Rattle.fi_cli.specs.Forms as form;
 ghost use Rattle.fi_cli.specs.Commands.{BadSource};
@@ -27,6 +27,8 @@ pub fn obey<'a, S: Shelf>(
         (record { told = S.told shelf.old; before = S.faults shelf.old; now = S.faults shelf.new; last = S.last shelf.new }) bytes.items) }
     ensures cause { IfErr result (λ fault. StandsAt (cause_view fault) (command_view command.entry)
         (record { told = S.told shelf.old; before = S.faults shelf.old; now = S.faults shelf.new; last = S.last shelf.new })) }
+    ensures keeps { S.told shelf.new ≡ S.told shelf.old }
+    ensures rises { S.faults shelf.old ≤ S.faults shelf.new }
 {
     match command {
         Command::Compile(command) => compile(alloc, command, shelf),
@@ -55,6 +57,8 @@ fn compile<'a, S: Shelf>(
         (record { told = S.told shelf.old; before = S.faults shelf.old; now = S.faults shelf.new; last = S.last shelf.new }) bytes.items) }
     ensures cause { IfErr result (λ fault. StandsAt (cause_view fault) (form.Compile command.entry.file.now command.entry.entry.now command.entry.types.items)
         (record { told = S.told shelf.old; before = S.faults shelf.old; now = S.faults shelf.new; last = S.last shelf.new })) }
+    ensures keeps { S.told shelf.new ≡ S.told shelf.old }
+    ensures rises { S.faults shelf.old ≤ S.faults shelf.new }
 {
     let mut source = Vec::new(alloc);
     match shelf.read(command.file, 1_048_577, &mut source) {
@@ -99,7 +103,8 @@ fn read_whole<'a, S: Shelf>(
 ) -> Result<Vec<u8>, Fault<'a>>
     ensures bytes { IfOk result (λ bytes. Told (S.told shelf.old name.now) (λ told. bytes.items ≡ told)) }
     ensures counts { OnOk result (S.faults shelf.new ≡ S.faults shelf.old) }
-    ensures told { S.told shelf.new ≡ S.told shelf.old }
+    ensures keeps { S.told shelf.new ≡ S.told shelf.old }
+    ensures rises { S.faults shelf.old ≤ S.faults shelf.new }
     ensures cause { IfErr result (λ fault. IsUnread (cause_view fault) name.now (S.faults shelf.old) (S.faults shelf.new) (S.last shelf.new)) }
 {
     let mut bytes = Vec::new(alloc);
@@ -120,6 +125,8 @@ fn run<'a, S: Shelf>(alloc: Global, command: Run<'a>, shelf: &mut S) -> Result<V
         (record { told = S.told shelf.old; before = S.faults shelf.old; now = S.faults shelf.new; last = S.last shelf.new }) bytes.items) }
     ensures cause { IfErr result (λ fault. StandsAt (cause_view fault) (form.Run command.entry.file.now command.entry.cases.now command.entry.turns)
         (record { told = S.told shelf.old; before = S.faults shelf.old; now = S.faults shelf.new; last = S.last shelf.new })) }
+    ensures keeps { S.told shelf.new ≡ S.told shelf.old }
+    ensures rises { S.faults shelf.old ≤ S.faults shelf.new }
 {
     let text = read_whole(alloc, command.file, shelf)?;
     let cases = read_whole(alloc, command.cases, shelf)?;

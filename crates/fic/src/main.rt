@@ -3,12 +3,11 @@
 
 use fi_cli::top;
 use fic_io::{ErrSink, FileShelf, Open, OutSink};
-use num_type::Memory;
 use std::env;
 use std::io::{self, ErrorKind};
 use std::process::ExitCode;
 
-/// The status where memory for the words, the shelf or a sink is wanting.
+/// The status where memory for the words is wanting.
 const MEMORY_STATUS: u8 = 4;
 
 /// The status where a word isn't UTF-8.
@@ -24,16 +23,16 @@ fn words(rt: HostRuntime) -> io::Result<Vec<String>> {
 }
 
 // Carries out the words over real files and streams, and answers the status.
-fn run(rt: HostRuntime, words: &[String]) -> Result<u8, Memory> {
-    let mut shelf = FileShelf::new(rt)?;
-    let mut out = OutSink::new(rt)?;
-    let mut err = ErrSink::new(rt)?;
-    Ok(top(rt.alloc(), words, &mut shelf, &mut out, &mut err, &Open {}))
+fn run(rt: HostRuntime, words: &[String]) -> u8 {
+    let mut shelf = FileShelf::new(rt);
+    let mut out = OutSink::new(rt);
+    let mut err = ErrSink::new(rt);
+    top(rt.alloc(), words, &mut shelf, &mut out, &mut err, &Open {})
 }
 
 fn main(rt: HostRuntime) -> ExitCode {
     let status = match words(rt) {
-        Ok(words) => run(rt, words.as_slice()).unwrap_or(MEMORY_STATUS),
+        Ok(words) => run(rt, words.as_slice()),
         Err(error) if error.kind() == ErrorKind::InvalidData => NOT_UTF8_STATUS,
         Err(_) => MEMORY_STATUS,
     };

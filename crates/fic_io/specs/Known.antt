@@ -1,5 +1,6 @@
 -- What is known of the shelves and sinks of this crate.
-use Rattle.std.specs.Prelude.{ℕ, List, Option, string_bytes}
+use Rattle.std.specs.Prelude.{ℕ, Bool, List, Option, string_bytes, nat_eq}
+use Rattle.std.specs.List.{list_any}
 use Rattle.fic_io.specs.Lookup.{bytes_under}
 use Rattle.fic_io.specs.declared.mem_shelf.MemShelf.{MemShelf}
 use Rattle.fic_io.specs.declared.file_shelf.FileShelf.{FileShelf}
@@ -17,6 +18,17 @@ mem_faults s = s.faults
 
 abbrev pub mem_last : MemShelf → List ℕ
 mem_last s = string_bytes s.last
+
+-- the numbers of the calls that fail, from 0, and how many calls there were: a count that stays at its end
+abbrev pub chosen_of : MemShelf → List ℕ
+chosen_of s = s.fails.items
+
+abbrev pub calls_of : MemShelf → ℕ
+calls_of s = s.calls
+
+-- whether the next call is one of those that fail
+abbrev pub is_chosen : MemShelf → Bool
+is_chosen s = list_any (λ number. nat_eq number (calls_of s)) (chosen_of s)
 
 abbrev pub file_faults : FileShelf → ℕ
 file_faults s = s.faults

@@ -1,10 +1,9 @@
 //! The files of the system as a shelf.
 
-ghost use Rattle.std.specs.Prelude.{◌≡◌, ℕ, List, Option, None, [], IfOk};
+ghost use Rattle.std.specs.Prelude.{◌≡◌, ◌≤◌, ℕ, List, Option, None, [], IfOk, length};
 ghost use Rattle.fic_io.specs.Known.{file_faults, file_last};
 
 use crate::shelf::{Shelf, ShelfFault};
-use num_type::Memory;
 use std::fs;
 use std::io::Read;
 
@@ -17,20 +16,22 @@ pub struct FileShelf {
 }
 
 impl FileShelf {
-    /// A shelf over the files that this process can open. Want of memory is its only refusal.
-    pub fn new(rt: HostRuntime) -> Result<FileShelf, Memory>
-        ensures { IfOk result (λ s. (file_faults s ≡ 0) × (file_last s ≡ [])) }
+    /// A shelf over the files that this process can open. It takes no memory.
+    pub fn new(rt: HostRuntime) -> FileShelf
+        ensures { (file_faults result ≡ 0) × (file_last result ≡ []) }
     {
         let last = String::new(rt.alloc());
-        Ok(FileShelf {
+        FileShelf {
             rt,
             faults: 0,
             last,
-        })
+        }
     }
 
     // The first bytes of a file, at most `limit`.
-    fn load(&self, name: &str, limit: u64) -> Result<Vec<u8>, ShelfFault> {
+    fn load(&self, name: &str, limit: u64) -> Result<Vec<u8>, ShelfFault>
+        ensures { IfOk result (λ bytes. length bytes.items ≤ limit) }
+    {
         let mut bytes = Vec::new(self.rt.alloc());
         let Ok(mut file) = fs::open(&self.rt, name) else {
             return Err(ShelfFault::Failed);

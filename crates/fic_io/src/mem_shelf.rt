@@ -2,7 +2,8 @@
 
 ghost use Rattle.std.specs.Prelude.{◌≡◌, ℕ, List, Option, Some, None, [], ◌++◌, take, OnOk, OnErr, IfErr, string_bytes};
 ghost use Rattle.fic_io.specs.Lookup.{bytes_under, entry_under};
-ghost use Rattle.fic_io.specs.Known.{bytes_on, mem_faults, mem_last};
+ghost use Rattle.fic_io.specs.Causes.{ReadLeaves, FailsAsChosen, GrewBy, RoseByOne, one_more};
+ghost use Rattle.fic_io.specs.Known.{bytes_on, mem_faults, mem_last, calls_of, chosen_of, is_chosen};
 ghost use Rattle.std.specs.Option.{option_copied};
 
 use crate::shelf::{Shelf, ShelfFault};
@@ -25,6 +26,7 @@ impl MemShelf {
         ensures files { (name : List ℕ) → bytes_on result name ≡ bytes_under files.items name }
         ensures faults { mem_faults result ≡ 0 }
         ensures last { mem_last result ≡ [] }
+        ensures calls { (calls_of result ≡ 0) × (chosen_of result ≡ fails.items) }
     {
         MemShelf {
             files,
@@ -40,6 +42,16 @@ impl MemShelf {
     {
         self.files.iter().find(|f| f.0.as_str() == name)
     }
+
+    // Counts a failure at a name.
+    fn count_failure(&mut self, name: String)
+        ensures faults { RoseByOne (mem_faults self.old) (mem_faults self.new) }
+        ensures last { mem_last self.new ≡ string_bytes name }
+        ensures kept { (bytes_on self.new ≡ bytes_on self.old) × (calls_of self.new ≡ calls_of self.old) × (chosen_of self.new ≡ chosen_of self.old) }
+    {
+        self.last = name;
+        self.faults = self.faults.saturating_add(1);
+    }
 }
 
 impl Shelf for MemShelf {
@@ -49,19 +61,28 @@ impl Shelf for MemShelf {
 
     ghost last = { λ s. mem_last s };
 
-    fn read(&mut self, name: &str, limit: u64, into: &mut Vec<u8>) -> Result<(), ShelfFault> {
+    fn read(&mut self, name: &str, limit: u64, into: &mut Vec<u8>) -> Result<(), ShelfFault>
+        ensures leaves { ReadLeaves result name.now (mem_faults self.old) (mem_faults self.new) (bytes_on self.old name.now)
+            (mem_last self.old) (mem_last self.new) into.old.items into.new.items limit }
+        ensures told { bytes_on self.new ≡ bytes_on self.old }
+        ensures fails { FailsAsChosen result (is_chosen self.old) (bytes_on self.old name.now) }
+        ensures calls { (calls_of self.new ≡ one_more (calls_of self.old)) × (chosen_of self.new ≡ chosen_of self.old) }
+    {
+        let call = self.calls;
+        let fails = self.fails.as_slice().contains(&call);
+        self.calls = call.saturating_add(1);
         let alloc = *into.allocator();
         let Ok(kept) = String::from_str(alloc, name) else {
             return Err(ShelfFault::Memory);
         };
-        let call = self.calls;
-        self.calls = call.saturating_add(1);
-        let fails = self.fails.as_slice().contains(&call);
+        if fails {
+            self.count_failure(kept);
+            return Err(ShelfFault::Failed);
+        }
         match self.find(name) {
-            Some(file) if !fails => add_front(into, file.1.as_slice(), limit),
-            _ => {
-                self.last = kept;
-                self.faults = self.faults.saturating_add(1);
+            Some(file) => add_front(into, file.1.as_slice(), limit),
+            None => {
+                self.count_failure(kept);
                 Err(ShelfFault::Failed)
             }
         }
@@ -71,6 +92,7 @@ impl Shelf for MemShelf {
 // Appends the first bytes, at most `limit`.
 fn add_front(into: &mut Vec<u8>, bytes: &[u8], limit: u64) -> Result<(), ShelfFault>
     ensures ok { OnOk result (into.new.items ≡ into.old.items ++ take limit bytes.now) }
+    ensures few { OnOk result (GrewBy limit into.old.items into.new.items) }
     ensures err { OnErr result (into.new.items ≡ into.old.items) }
     ensures memory { IfErr result (λ e. e ≡ ShelfFault.Memory) }
 {

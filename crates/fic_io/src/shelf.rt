@@ -25,7 +25,8 @@ pub trait Shelf {
 
     /// Appends to `into` the first `limit` bytes under a name, or all if there are fewer.
     ///
-    /// `Failed` comes only where the count of faults rose in this call, and the last failure is then this name; no other answer
+    /// On Ok `into` has what stood there and at most `limit` bytes behind it: the first ones under the name, where the shelf tells them. `Failed`
+    /// comes only where the count of faults rose by one in this call, and the last failure is then this name; no other answer
     /// changes the count or that name. On `Failed` and on `Memory` `into` is as before.
     fn read(&mut self, name: &str, limit: u64, into: &mut Vec<u8>) -> Result<(), ShelfFault>
         ensures leaves { ReadLeaves result name.now (faults self.old) (faults self.new) (told self.old name.now)

@@ -17,7 +17,7 @@ pub trait Sink {
 
     /// Takes some bytes from the front, at least one, and answers how many. It takes no memory.
     ///
-    /// `Failed` comes only where the count of faults rose in this call, and then no byte was taken.
+    /// `Failed` comes only where the count of faults rose by one in this call, and then no byte was taken.
     fn put(&mut self, bytes: &[u8]) -> Result<usize, Failed>
         requires { 1 ≤ length bytes.now }
         ensures { PutLeaves result bytes.now (faults self.old) (faults self.new) (taken self.old) (taken self.new) };

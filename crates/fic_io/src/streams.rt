@@ -1,10 +1,9 @@
 //! Standard output and standard error as sinks.
 
-ghost use Rattle.std.specs.Prelude.{◌≡◌, ℕ, List, Option, None, IfOk};
+ghost use Rattle.std.specs.Prelude.{◌≡◌, ℕ, List, Option, None};
 ghost use Rattle.fic_io.specs.Known.{out_faults, err_faults};
 
 use crate::sink::{Failed, Sink};
-use num_type::Memory;
 use std::io::Write;
 
 /// Standard output. It tells no bytes.
@@ -15,11 +14,11 @@ pub struct OutSink {
 }
 
 impl OutSink {
-    /// Standard output of this process, unbuffered. Want of memory is its only refusal.
-    pub fn new(rt: HostRuntime) -> Result<OutSink, Memory>
-        ensures { IfOk result (λ s. out_faults s ≡ 0) }
+    /// Standard output of this process, unbuffered. It takes no memory.
+    pub fn new(rt: HostRuntime) -> OutSink
+        ensures { out_faults result ≡ 0 }
     {
-        Ok(OutSink { rt, faults: 0 })
+        OutSink { rt, faults: 0 }
     }
 }
 
@@ -47,11 +46,11 @@ pub struct ErrSink {
 }
 
 impl ErrSink {
-    /// Standard error of this process. Want of memory is its only refusal.
-    pub fn new(rt: HostRuntime) -> Result<ErrSink, Memory>
-        ensures { IfOk result (λ s. err_faults s ≡ 0) }
+    /// Standard error of this process. It takes no memory.
+    pub fn new(rt: HostRuntime) -> ErrSink
+        ensures { err_faults result ≡ 0 }
     {
-        Ok(ErrSink { rt, faults: 0 })
+        ErrSink { rt, faults: 0 }
     }
 }
 

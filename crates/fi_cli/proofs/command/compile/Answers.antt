@@ -13,7 +13,7 @@ returns-in-Ok-compile_source-clause-bytes g c =
     (subst (λ source. IsCompiled source c.args.command.entry.now c.args.command.types.items c.in-Ok-compile_source.text.items)
     (c.as_slice.ensures.value ∙ e ∙ ap (λ l. l ++ take 1048577 bytes) c.new-source.ensures.items)
     (subst (λ ds. IsCompiled c.as_slice.result.now c.args.command.entry.now ds c.in-Ok-compile_source.text.items) c.as_slice-2.ensures.value c.in-Ok-compile_source.ensures.text)))
-    c.in-Ok.ensures.leaves.2
+    c.in-Ok.ensures.leaves.3
 
 pub returns-clause-cause : goal.returns-clause-cause
 returns-clause-cause g c =
@@ -24,4 +24,4 @@ returns-clause-cause g c =
     (λ bytes e. cut_refusal bytes c.args.command.entry.now c.args.command.types.items r
     (subst (λ source. IsRefusal source c.args.command.entry.now c.args.command.types.items r)
     (c.as_slice.ensures.value ∙ e ∙ ap (λ l. l ++ take 1048577 bytes) c.new-source.ensures.items) h))
-    c.in-Ok.ensures.leaves.2)
+    c.in-Ok.ensures.leaves.3)

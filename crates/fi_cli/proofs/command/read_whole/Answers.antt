@@ -11,4 +11,4 @@ returns-clause-bytes g c =
     (λ bytes e.
     let read : c.read.new.into.items ≡ take 18446744073709551615 bytes = e ∙ ap (λ l. l ++ take 18446744073709551615 bytes) c.new-bytes.ensures.items in
     read ∙ read_all 18446744073709551615 bytes (λ full. false≢true (c.if-is_full.ensures.1 (ap length c.as_slice.ensures.value ∙ ap length read ∙ full))))
-    c.in-Ok.ensures.leaves.2
+    c.in-Ok.ensures.leaves.3
