@@ -1,7 +1,7 @@
 -- Where tokens are refused, by their words.
-use Rattle.std.proofs.Common.{◌≡◌, ℕ, zero, suc, ◌<◌, ◌≤◌, Bool, true, false, [], ◌∷◌, ◌++◌, take, drop, length, get_or, refl, sym, ap, ◌∙◌, arith, subst, append_assoc}
+use Rattle.std.proofs.Common.{◌≡◌, ℕ, zero, suc, ◌<◌, ◌≤◌, Bool, true, false, [], ◌∷◌, ◌++◌, take, drop, length, get_or, refl, sym, ap, ◌∙◌, arith, subst, append_assoc, append-nil}
 use Rattle.std.specs.Prelude.{◌↔◌, Some, None}
-use Rattle.std.proofs.lemmas.List.{take-append-drop, take-take}
+use Rattle.std.proofs.lemmas.List.{take-append-drop, take-take, length-take}
 use Rattle.c_tree.specs.Depth.{depth, depth_limit}
 use Rattle.c_tree.specs.Depths.{Depths, depths, greatest}
 use Rattle.c_tree.specs.Spelling.{Texts}
@@ -89,32 +89,50 @@ pub refused_shallow : GoesByWords → LiveByWords → DepthByWords → (i : Sign
     → IsFirstDeep None (word_depths ws) → IsRefused i ws n → IsBadToken bad.Token i ts at_end n
 refused_shallow goes lives law i it ts ws h at_end n found r = (unfit goes lives i it ts ws h at_end n r, none_before law i it ts ws h n (λ k m. found k))
 
--- a deep word before the place at which words are refused
-pub deep_before : LiveByWords → DepthByWords → (i : Signature) → IsInterface i → (ts : Texts) (ws : Words) → AreWordsOf i ts ws → (at_end : Bool) (first n : ℕ) → first < n
-    → IsFirstDeep (Some first) (word_depths ws) → IsRefused i ws n → IsBadToken bad.Limit i ts at_end first
-deep_before lives law i it ts ws h at_end first n m found r =
+-- the first deep word of words that go on to a program with it
+pub deep_live : LiveByWords → DepthByWords → (i : Signature) → IsInterface i → (ts : Texts) (ws : Words) → AreWordsOf i ts ws → (at_end : Bool) (first : ℕ)
+    → length (word_depths ws) ≡ length ws → IsFirstDeep (Some first) (word_depths ws) → IsLive i (take (suc first) ws) → IsBadToken bad.Limit i ts at_end first
+deep_live lives law i it ts ws h at_end first n found l =
     let e = as_many i ts ws h in
-    let w = r.within in
-    (words_deep lives law i it ts ws h first (omega arith) (shorter i (suc first) n ws (omega arith) r.live) found.1, none_before law i it ts ws h first found.2)
-
--- a deep word that isn't before it
-pub deep_behind : GoesByWords → LiveByWords → DepthByWords → (i : Signature) → IsInterface i → (ts : Texts) (ws : Words) → AreWordsOf i ts ws → (at_end : Bool) (first n : ℕ) → n ≤ first
-    → IsFirstDeep (Some first) (word_depths ws) → IsRefused i ws n → IsBadToken bad.Token i ts at_end n
-deep_behind goes lives law i it ts ws h at_end first n m found r =
-    (unfit goes lives i it ts ws h at_end n r, none_before law i it ts ws h n (λ k l. found.2 k (omega arith)))
+    let m = found.0 in
+    (words_deep lives law i it ts ws h first (omega arith) l found.1, none_before law i it ts ws h first found.2)
 
 -- ---- words of a program
 
 front_live : (i : Signature) (p : Program) (ws : Words) (k : ℕ) → IsSentence i p ws → IsLive i (take k ws)
 front_live i p ws k s = record { more = drop k ws; program = p; sentence = subst (IsSentence i p) (sym (take-append-drop k ws)) s }
 
--- a program with a deep word
-pub program_deep : LiveByWords → DepthByWords → (i : Signature) → IsInterface i → (p : Program) (ts : Texts) (ws : Words) → AreWordsOf i ts ws → (at_end : Bool) (first : ℕ)
-    → length (word_depths ws) ≡ length ws → IsFirstDeep (Some first) (word_depths ws) → IsSentence i p ws → IsBadToken bad.Limit i ts at_end first
-program_deep lives law i it p ts ws h at_end first n found s =
-    let e = as_many i ts ws h in
-    let m = found.0 in
-    (words_deep lives law i it ts ws h first (omega arith) (front_live i p ws (suc first) s) found.1, none_before law i it ts ws h first found.2)
+-- ---- words up to the first deep one
+
+-- a program that ends with it
+pub deep_last : LiveByWords → DepthByWords → (i : Signature) → IsInterface i → (p : Program) (ts : Texts) (ws : Words) → AreWordsOf i ts ws → (at_end : Bool) (first : ℕ)
+    → length (word_depths ws) ≡ length ws → IsFirstDeep (Some first) (word_depths ws) → IsSentence i p (take (suc first) ws) → IsBadToken bad.Limit i ts at_end first
+deep_last lives law i it p ts ws h at_end first n found s =
+    let front = take (suc first) ws in
+    deep_live lives law i it ts ws h at_end first n found (record { more = []; program = p; sentence = subst (IsSentence i p) (sym (append-nil front)) s })
+
+-- they are refused only behind it
+pub deep_before : LiveByWords → DepthByWords → (i : Signature) → IsInterface i → (ts : Texts) (ws : Words) → AreWordsOf i ts ws → (at_end : Bool) (first n : ℕ) → first < n
+    → length (word_depths ws) ≡ length ws → IsFirstDeep (Some first) (word_depths ws) → IsRefused i (take (suc first) ws) n → IsBadToken bad.Limit i ts at_end first
+deep_before lives law i it ts ws h at_end first n m count found r =
+    let front = take (suc first) ws in
+    let whole = subst (IsLive i) (take-take (suc first) (suc first) ws (omega arith)) (shorter i (suc first) n front (omega arith) r.live) in
+    deep_live lives law i it ts ws h at_end first count found whole
+
+-- they are refused before it or at it, and so are all words
+pub deep_behind : GoesByWords → LiveByWords → DepthByWords → (i : Signature) → IsInterface i → (ts : Texts) (ws : Words) → AreWordsOf i ts ws → (at_end : Bool) (first n : ℕ) → n ≤ first
+    → length (word_depths ws) ≡ length ws → IsFirstDeep (Some first) (word_depths ws) → IsRefused i (take (suc first) ws) n → IsBadToken bad.Token i ts at_end n
+deep_behind goes lives law i it ts ws h at_end first n m count found r =
+    let within = found.0 in
+    let long : n < length (take (suc first) ws) = omega (arith, length-take (suc first) ws) in
+    let stuck : IsLive i (take (suc n) ws) → ⊥ = λ l. r.next long (subst (IsLive i) (sym (take-take (suc n) (suc first) ws (omega arith))) l) in
+    let all : IsRefused i ws n = record {
+      within = omega arith;
+      live = subst (IsLive i) (take-take n (suc first) ws (omega arith)) r.live;
+      next = λ k l. stuck l;
+      none = λ p s. stuck (front_live i p ws (suc n) s);
+    } in
+    (unfit goes lives i it ts ws h at_end n all, none_before law i it ts ws h n (λ k l. found.2 k (omega arith)))
 
 -- a program before a byte that begins no token
 pub program_cut : LiveByWords → DepthByWords → (i : Signature) → IsInterface i → (p : Program) (ts : Texts) (ws : Words) → AreWordsOf i ts ws → (n : ℕ) → n ≡ length ws

@@ -1,6 +1,6 @@
 //! The tokens of a function.
 
-ghost use Rattle.std.specs.Prelude.{◌≡◌, Bool, MatchOption, length};
+ghost use Rattle.std.specs.Prelude.{◌≡◌, ◌<◌, Bool, MatchOption, None, Some, Err, suc, length, take};
 ghost use Rattle.c_depth.specs.First.{IsFirstDeep};
 ghost use Rattle.c_depth.specs.Read.{word_depths};
 ghost use Rattle.c_grammar.specs.Live.{IsRefused, IsSentence};
@@ -45,57 +45,55 @@ fn has_slot(interface: &Interface) -> bool
     !interface.outputs.is_empty()
 }
 
-/// The earlier one of the first deep token, if there is one, and a token that no program has there. The latter goes first at one place.
-fn earlier(deep: Option<usize>, at: usize) -> BadToken
-    ensures { (i : Signature) (ts : Texts) (ws : Words) (at_end : Bool) → IsInterface i → AreWordsOf i ts ws → IsFirstDeep deep (word_depths ws)
+/// Where words are refused none of which is deep.
+fn refused_at(at: usize) -> BadToken
+    ensures { (i : Signature) (ts : Texts) (ws : Words) (at_end : Bool) → IsInterface i → AreWordsOf i ts ws → IsFirstDeep None (word_depths ws)
         → IsRefused i ws at → IsBadToken result.kind i ts at_end result.at }
 {
     texts_go_by_words();
     depth_by_words();
-    match deep {
-        None => BadToken {
-            at,
-            kind: CBad::Token,
-        },
-        Some(first) => {
-            if first < at {
-                return BadToken {
-                    at: first,
-                    kind: CBad::Limit,
-                };
-            }
-            BadToken {
-                at,
-                kind: CBad::Token,
-            }
-        }
+    BadToken {
+        at,
+        kind: CBad::Token,
     }
 }
 
-/// Where the tokens of a program are refused after all: at the first deep one, or behind them where a byte follows.
-fn after_all(deep: Option<usize>, count: usize, at_end: bool) -> Option<BadToken>
-    ensures { (i : Signature) (p : Program) (ts : Texts) (ws : Words) → IsInterface i → AreWordsOf i ts ws → IsFirstDeep deep (word_depths ws)
+/// Where words are refused whose front, up to and with the first deep one, is refused at a place: there, if it stands before the deep one or at it.
+fn refused_in_front(first: usize, at: usize) -> BadToken
+    ensures { (i : Signature) (ts : Texts) (ws : Words) (at_end : Bool) → IsInterface i → AreWordsOf i ts ws → IsFirstDeep (Some first) (word_depths ws)
+        → IsRefused i (take (suc first) ws) at → IsBadToken result.kind i ts at_end result.at }
+{
+    texts_go_by_words();
+    depth_by_words();
+    depths_by_words();
+    if first < at {
+        return BadToken {
+            at: first,
+            kind: CBad::Limit,
+        };
+    }
+    BadToken {
+        at,
+        kind: CBad::Token,
+    }
+}
+
+/// Where the tokens of a program, none of which is deep, are refused after all: behind them where a byte follows.
+fn after_all(count: usize, at_end: bool) -> Option<BadToken>
+    ensures { (i : Signature) (p : Program) (ts : Texts) (ws : Words) → IsInterface i → AreWordsOf i ts ws → IsFirstDeep None (word_depths ws)
         → IsSentence i p ws → count ≡ length ws → MatchOption result (IsProgramOf i p ts at_end) (λ b. IsBadToken b.kind i ts at_end b.at) }
 {
     texts_go_by_words();
     depth_by_words();
     depths_by_words();
     depth_is_the_greatest();
-    match deep {
-        Some(first) => Some(BadToken {
-            at: first,
-            kind: CBad::Limit,
-        }),
-        None => {
-            if at_end {
-                return None;
-            }
-            Some(BadToken {
-                at: count,
-                kind: CBad::Token,
-            })
-        }
+    if at_end {
+        return None;
     }
+    Some(BadToken {
+        at: count,
+        kind: CBad::Token,
+    })
 }
 
 /// A refusal, which lets go of the program.
@@ -116,25 +114,59 @@ fn unless_bad(program: CProgram, bad: Option<BadToken>) -> Result<CProgram, Stop
     }
 }
 
-/// The program of words, with the place of the first deep one.
+/// The program of words none of which is deep.
 fn read_words(
     alloc: Global,
     interface: Interface,
     words: &[CWordToken],
-    deep: Option<usize>,
     at_end: bool,
 ) -> Result<CProgram, Stop<BadToken>>
     requires interface { IsInterface (interface_view interface) }
-    requires deep { IsFirstDeep deep (word_depths words.now) }
+    requires deep { IsFirstDeep None (word_depths words.now) }
     ensures { (ts : Texts) → AreWordsOf (interface_view interface) ts words.now → ReadsTokens result (interface_view interface) ts at_end }
 {
     match parse(alloc, interface, words) {
         Err(Stop::Memory) => Err(Stop::Memory),
-        Err(Stop::Refused(bad)) => Err(Stop::Refused(earlier(deep, bad.at))),
+        Err(Stop::Refused(bad)) => Err(Stop::Refused(refused_at(bad.at))),
         Ok(program) => {
-            let bad = after_all(deep, words.len(), at_end);
+            let bad = after_all(words.len(), at_end);
             let r = unless_bad(program, bad);
             r
+        }
+    }
+}
+
+/// The words up to and with one of them.
+fn up_to(words: &[CWordToken], last: usize) -> &[CWordToken]
+    requires { last < length words.now }
+    ensures { result.now ≡ take (suc last) words.now }
+{
+    words.split_at(last + 1).0
+}
+
+/// Why words are refused of which one is deep. Only those up to the first deep one are parsed, so that no deep tree is ever built.
+fn refuse_deep(
+    alloc: Global,
+    interface: Interface,
+    words: &[CWordToken],
+    first: usize,
+) -> Stop<BadToken>
+    requires interface { IsInterface (interface_view interface) }
+    requires deep { IsFirstDeep (Some first) (word_depths words.now) }
+    ensures { (ts : Texts) (at_end : Bool) → AreWordsOf (interface_view interface) ts words.now → ReadsTokens (Err result) (interface_view interface) ts at_end }
+{
+    texts_go_by_words();
+    depth_by_words();
+    depths_by_words();
+    match parse(alloc, interface, up_to(words, first)) {
+        Err(Stop::Memory) => Stop::Memory,
+        Err(Stop::Refused(bad)) => Stop::Refused(refused_in_front(first, bad.at)),
+        Ok(program) => {
+            drop(program);
+            Stop::Refused(BadToken {
+                at: first,
+                kind: CBad::Limit,
+            })
         }
     }
 }
@@ -158,10 +190,11 @@ fn read_shallow(
 {
     match first_deep(alloc, words) {
         Err(_) => Err(failed(interface)),
-        Ok(deep) => {
-            let r = read_words(alloc, interface, words, deep, at_end);
+        Ok(None) => {
+            let r = read_words(alloc, interface, words, at_end);
             r
         }
+        Ok(Some(first)) => Err(refuse_deep(alloc, interface, words, first)),
     }
 }
 
