@@ -1,0 +1,17 @@
+pub mod Binds
+pub mod Goes
+pub mod Conditions
+pub mod Standing
+pub mod Arithmetic
+pub mod Products
+pub mod Comparisons
+pub mod Powers
+pub mod Signs
+pub mod Operators
+pub mod Items
+pub mod Outcomes
+pub mod Selected
+pub mod Stored
+pub mod Indices
+pub mod Spans
+pub mod Rows

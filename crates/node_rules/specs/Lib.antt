@@ -1,0 +1,17 @@
+pub mod Types
+pub mod Ruled
+pub mod Agrees
+pub mod Parts
+pub mod Sides
+pub mod Pairs
+pub mod Worked
+pub mod Products
+pub mod Powers
+pub mod Comparisons
+pub mod Logicals
+pub mod Operators
+pub mod Signs
+pub mod Transposes
+pub mod Subscripts
+pub mod Stores
+pub mod Sums

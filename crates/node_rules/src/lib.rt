@@ -1,0 +1,72 @@
+//! The rules of nodes: for an operator, a sign, a transpose, a sum, a subscripted read and a subscripted assignment, on operands of which types
+//! it is defined, with the conditions in the order of their codes, the type of its result, and the value of its node at that type. Laws:
+//! evaluation goes by these rules.
+#![tactic(auto)]
+
+ghost use Rattle.std.specs.Prelude.{◌≡◌, ◌<◌, ◌^◌, ℕ, ℤ, List, Option, Some, true, nat_abs};
+ghost use Rattle.fic_base.specs.declared.place.Place.{Place};
+ghost use Rattle.mat_ast.specs.declared.tree.BinOp.{BinOp};
+ghost use Rattle.mat_ast.specs.declared.tree.PostOp.{PostOp};
+ghost use Rattle.mat_ast.specs.declared.tree.UnOp.{UnOp};
+ghost use Rattle.fi_rules.specs.Value.{Val};
+ghost use Rattle.fi_rules.specs.declared.work.Work.{Work};
+ghost use Rattle.fi_values.specs.Arithmetic.{is_arithmetic, arithmetic};
+ghost use Rattle.fi_values.specs.Numbers.{is_bound};
+ghost use Rattle.fi_values.specs.Sums.{Along, summed_value};
+ghost use Rattle.fi_values.specs.Transposes.{transposed};
+ghost use Rattle.fi_meaning.specs.Operators.{by_operator, by_sign};
+ghost use Rattle.node_rules.specs.Agrees.{Tells, evaluated_read, evaluated_store};
+ghost use Rattle.node_rules.specs.Operators.{pair_ruled, pair_value};
+ghost use Rattle.fi_meaning.specs.Statements.{item_value};
+ghost use Rattle.node_rules.specs.Pairs.{Span, IsIn, span_worked, items_worked, arithmetic_value};
+ghost use Rattle.node_rules.specs.Ruled.{Fine, given};
+ghost use Rattle.node_rules.specs.Signs.{sign_ruled, sign_value};
+ghost use Rattle.node_rules.specs.Stores.{store_ruled, store_value};
+ghost use Rattle.node_rules.specs.Subscripts.{SoundItems, item_types, read_ruled, read_value};
+ghost use Rattle.node_rules.specs.Sums.{sum_ruled, sum_value};
+ghost use Rattle.node_rules.specs.Transposes.{post_ruled, post_value};
+ghost use Rattle.node_rules.specs.Types.{NodeTy, IndexNode, ty_of};
+
+/// An operator with two operands gives what its rule says: a value exactly where the conditions of the rule hold on the types of the operands,
+/// and then the value of the node at the type that the rule gives.
+pub fn operators_go_by_their_rules()
+    ensures { (o : BinOp) (v w : Val) → by_operator o v w ≡ given (pair_ruled o (ty_of v) (ty_of w)) (λ t. pair_value o t v w) }
+{}
+
+/// The value of an operator's node has the type of the node.
+pub fn operators_have_their_types()
+    ensures { (o : BinOp) (v w : Val) (t : NodeTy) → pair_ruled o (ty_of v) (ty_of w) ≡ Fine t → ty_of (pair_value o t v w) ≡ t }
+{}
+
+/// A sign, or `~`, gives what its rule says: a value exactly where its conditions hold, the one at the type of the node.
+pub fn signs_go_by_their_rule()
+    ensures { (sign : UnOp) (v : Val) → by_sign sign v ≡ given (sign_ruled sign (ty_of v)) (λ t. sign_value sign t v) }
+{}
+
+/// A transpose gives what its rule says, likewise.
+pub fn transposes_go_by_their_rule()
+    ensures { (mark : PostOp) (v : Val) → transposed mark v ≡ given (post_ruled mark (ty_of v)) (λ t. post_value mark t v) }
+{}
+
+/// A sum of the elements along a dimension gives what its rule says, likewise.
+pub fn sums_go_by_their_rule()
+    ensures { (along : Along) (v : Val) → summed_value along v ≡ given (sum_ruled along (ty_of v)) (λ t. sum_value along t v) }
+{}
+
+/// A subscripted read has the outcome that its rule says: wrong at its place where a condition is missing, and else the value or the fault at
+/// the type of the node. The values of the subscripts are sound.
+pub fn reads_go_by_their_rule()
+    ensures { (at : Place) (site : ℕ) (v : Val) (ks : List (Option Val)) → SoundItems ks → Tells at (λ t. read_value site t v ks) (evaluated_read at site v ks) (read_ruled (ty_of v) (item_types ks)) }
+{}
+
+/// A subscripted assignment has the outcome that its rule says, likewise.
+pub fn stores_go_by_their_rule()
+    ensures { (at : Place) (site : ℕ) (old : Val) (ks : List (Option Val)) (v : Val) → SoundItems ks → Tells at (λ t. store_value site old ks v) (evaluated_store at site old ks v) (store_ruled (ty_of old) (item_types ks) (ty_of v)) }
+{}
+
+/// A sum, difference or product of two loop indices is that of the whole numbers, and stays in the span that its rule gives.
+pub fn indices_go_by_their_rules()
+    ensures value { (w : Work) (lo hi a b : ℤ) → is_arithmetic w ≡ true → is_bound a ≡ true → is_bound b ≡ true → nat_abs (items_worked w a b) < 2 ^ 53
+        → arithmetic w (item_value a) (item_value b) ≡ Some (arithmetic_value w (IndexNode lo hi) (item_value a) (item_value b)) }
+    ensures span { (w : Work) (a b : ℤ) (p q : Span) → is_arithmetic w ≡ true → IsIn p a → IsIn q b → IsIn (span_worked w p q) (items_worked w a b) }
+{}
