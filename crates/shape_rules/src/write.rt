@@ -24,17 +24,27 @@ pub fn write_type(declared: &Declared, out: &mut Vec<u8>) -> Result<(), Memory>
 fn put_type(declared: &Declared, out: &mut Vec<u8>) -> Result<(), Memory>
     ensures { OnOk result (out.new.items ≡ out.old.items ++ declared_text declared.now) }
 {
-    write_num(declared.num, out)?;
+    put_num(declared.num, out)?;
     out.extend_from_slice(b":")?;
-    write_shape(declared.shape, out)?;
+    put_shape(declared.shape, out)?;
     if declared.complex {
         out.extend_from_slice(b":c")?;
     }
     Ok(())
 }
 
-/// Appends the text of a numeric type, such as `s16.15`. Want of memory is its only refusal.
+/// Appends the text of a numeric type, such as `s16.15`. Want of memory is its only refusal, and `out` is then as before.
 pub fn write_num(num: NumType, out: &mut Vec<u8>) -> Result<(), Memory>
+    ensures ok { OnOk result (out.new.items ≡ out.old.items ++ type_text (type_of num)) }
+    ensures err { OnErr result (out.new.items ≡ out.old.items) }
+{
+    let mut text = Vec::new(*out.allocator());
+    put_num(num, &mut text)?;
+    out.extend_from_slice(text.as_slice())?;
+    Ok(())
+}
+
+fn put_num(num: NumType, out: &mut Vec<u8>) -> Result<(), Memory>
     ensures { OnOk result (out.new.items ≡ out.old.items ++ type_text (type_of num)) }
 {
     let alloc = *out.allocator();
@@ -45,8 +55,18 @@ pub fn write_num(num: NumType, out: &mut Vec<u8>) -> Result<(), Memory>
     Ok(())
 }
 
-/// Appends the text of a shape, such as `1x4`. Want of memory is its only refusal.
+/// Appends the text of a shape, such as `1x4`. Want of memory is its only refusal, and `out` is then as before.
 pub fn write_shape(shape: Shape, out: &mut Vec<u8>) -> Result<(), Memory>
+    ensures ok { OnOk result (out.new.items ≡ out.old.items ++ shape_text (rows_of shape) (columns_of shape)) }
+    ensures err { OnErr result (out.new.items ≡ out.old.items) }
+{
+    let mut text = Vec::new(*out.allocator());
+    put_shape(shape, &mut text)?;
+    out.extend_from_slice(text.as_slice())?;
+    Ok(())
+}
+
+fn put_shape(shape: Shape, out: &mut Vec<u8>) -> Result<(), Memory>
     ensures { OnOk result (out.new.items ≡ out.old.items ++ shape_text (rows_of shape) (columns_of shape)) }
 {
     let alloc = *out.allocator();
