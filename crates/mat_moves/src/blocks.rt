@@ -28,22 +28,34 @@ pub fn enter(around: Around, body: Body) -> Result<Around, AllocError>
         header,
     } = around;
     let mut bodies = bodies;
-    bodies.push(body)?;
-    Ok(Around {
-        bodies,
-        mode,
-        done,
-        header,
-    })
+    match bodies.push(body) {
+        Ok(()) => Ok(Around {
+            bodies,
+            mode,
+            done,
+            header,
+        }),
+        Err(error) => {
+            drop(bodies);
+            drop(done);
+            drop(header);
+            Err(error)
+        }
+    }
 }
 
 /// Behind a statement. Want of memory is its only refusal.
 #[tactic(auto, unfolding(mat_parts::specs::Pending::state_view))]
-fn done(steps: Steps, step: Step, around: Around) -> Result<Option<Reading>, AllocError>
+pub fn done(steps: Steps, step: Step, around: Around) -> Result<Option<Reading>, AllocError>
     ensures { IfOk result (λ next. Goes next (After (with_statement (block_view steps.body) (stmt_view step.stmt)) (around_view around))) }
 {
-    let steps = and_step(steps, step)?;
-    Ok(Some(Reading::After(steps, around)))
+    match and_step(steps, step) {
+        Ok(steps) => Ok(Some(Reading::After(steps, around))),
+        Err(error) => {
+            drop(around);
+            Err(error)
+        }
+    }
 }
 
 /// An `else` begins. Want of memory is its only refusal.
@@ -94,7 +106,12 @@ fn arm_ended(
         Word::ElseIf => Ok(next_arm(alloc, before, place, cases, around)),
         Word::Else => other(alloc, before, place, cases, around),
         Word::End => done(before, if_only(place, cases), around),
-        _ => Ok(None),
+        _ => {
+            drop(before);
+            drop(cases);
+            drop(around);
+            Ok(None)
+        }
     }
 }
 
@@ -110,7 +127,12 @@ fn statement_ended(
 {
     match word {
         Word::End => done(before, step, around),
-        _ => Ok(None),
+        _ => {
+            drop(before);
+            drop(step);
+            drop(around);
+            Ok(None)
+        }
     }
 }
 
@@ -119,7 +141,10 @@ fn body_end(mode: Mode, funcs: Funcs) -> Option<Reading>
     ensures { Goes result (body_end mode (funcs_view funcs.funcs.items)) }
 {
     match mode {
-        Mode::Unended => None,
+        Mode::Unended => {
+            drop(funcs);
+            None
+        }
         _ => Some(Reading::Top(Mode::Ended, funcs)),
     }
 }
@@ -129,7 +154,10 @@ fn body_next(mode: Mode, funcs: Funcs) -> Option<Reading>
     ensures { Goes result (body_next mode (funcs_view funcs.funcs.items)) }
 {
     match mode {
-        Mode::Ended => None,
+        Mode::Ended => {
+            drop(funcs);
+            None
+        }
         _ => Some(Reading::Heading(Mode::Unended, funcs)),
     }
 }
@@ -139,7 +167,10 @@ fn body_finish(mode: Mode, funcs: Funcs) -> Option<Reading>
     ensures { Goes result (body_finish mode (funcs_view funcs.funcs.items)) }
 {
     match mode {
-        Mode::Ended => None,
+        Mode::Ended => {
+            drop(funcs);
+            None
+        }
         _ => Some(Reading::Complete(funcs)),
     }
 }
@@ -153,7 +184,10 @@ fn body_ended(word: Word, mode: Mode, funcs: Funcs) -> Option<Reading>
         Word::End => body_end(mode, funcs),
         Word::Function => body_next(mode, funcs),
         Word::Finish => body_finish(mode, funcs),
-        _ => None,
+        _ => {
+            drop(funcs);
+            None
+        }
     }
 }
 
@@ -170,8 +204,14 @@ fn inner_ended(
 {
     match body {
         Body::If(before, place, cases, condition) => {
-            let cases = and_arm(cases, condition, steps)?;
-            arm_ended(alloc, word, before, place, cases, around)
+            match and_arm(cases, condition, steps) {
+                Ok(cases) => arm_ended(alloc, word, before, place, cases, around),
+                Err(error) => {
+                    drop(before);
+                    drop(around);
+                    Err(error)
+                }
+            }
         }
         Body::Else(before, place, cases) => {
             statement_ended(word, before, if_else(place, cases, steps), around)
@@ -210,6 +250,7 @@ pub fn block_ended(
     let mut bodies = bodies;
     match leave(&mut bodies) {
         None => {
+            drop(bodies);
             let funcs = and_func(done, header, steps)?;
             Ok(body_ended(word, mode, funcs))
         }

@@ -28,8 +28,14 @@ fn cell(
 {
     let Pending { frames, purpose } = pending;
     let mut frames = frames;
-    push(&mut frames, frame)?;
-    operand(alloc, place, word, own, Pending { frames, purpose })
+    match push(&mut frames, frame) {
+        Ok(()) => operand(alloc, place, word, own, Pending { frames, purpose }),
+        Err(error) => {
+            drop(frames);
+            drop(purpose);
+            Err(error)
+        }
+    }
 }
 
 /// A bracket is closed.

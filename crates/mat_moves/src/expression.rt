@@ -36,7 +36,10 @@ fn infix(place: Place, op: BinOp, pending: Pending) -> Result<Option<Reading>, A
     match op {
         BinOp::Add => sign(place, UnOp::Plus, pending),
         BinOp::Sub => sign(place, UnOp::Minus, pending),
-        _ => Ok(None),
+        _ => {
+            drop(pending);
+            Ok(None)
+        }
     }
 }
 
@@ -48,6 +51,7 @@ fn end_value(place: Place, pending: Pending) -> Option<Reading>
         let part = end(place);
         Some(Reading::Have(Compound { part }, pending))
     } else {
+        drop(pending);
         None
     }
 }
@@ -57,11 +61,18 @@ fn colon_argument(purpose: Purpose) -> Result<Option<Reading>, AllocError>
     ensures { IfOk result (λ next. Goes next (argument_colon (purpose_view purpose))) }
 {
     match purpose {
-        Purpose::Argument(belongs, opened, given) => {
-            let given = and_whole(given)?;
-            Ok(Some(Reading::Listed(Caller::Statement(belongs), opened, given)))
+        Purpose::Argument(belongs, opened, given) => match and_whole(given) {
+            Ok(given) => Ok(Some(Reading::Listed(Caller::Statement(belongs), opened, given))),
+            Err(error) => {
+                drop(opened);
+                drop(belongs);
+                Err(error)
+            }
+        },
+        _ => {
+            drop(purpose);
+            Ok(None)
         }
-        _ => Ok(None),
     }
 }
 
@@ -69,6 +80,7 @@ fn colon_argument(purpose: Purpose) -> Result<Option<Reading>, AllocError>
 fn refuse(pending: Pending) -> Option<Reading>
     ensures { Goes result Stuck }
 {
+    drop(pending);
     None
 }
 
@@ -76,11 +88,13 @@ fn refuse(pending: Pending) -> Option<Reading>
 fn refuse_in(frame: Frame, pending: Pending) -> Option<Reading>
     ensures { Goes result Stuck }
 {
+    drop(frame);
     refuse(pending)
 }
 
 /// A refusal, which ends what waits.
 fn failed(pending: Pending, error: AllocError) -> AllocError {
+    drop(pending);
     error
 }
 
@@ -93,7 +107,10 @@ fn colon_given(
     ensures { IfOk result (λ next. Goes next (Listed (InValue (stack_of pending.frames) (purpose_view pending.purpose)) opened.place opened.text opened.opens (with_whole (args_view given.args)))) }
 {
     match and_whole(given) {
-        Err(error) => Err(failed(pending, error)),
+        Err(error) => {
+            drop(opened);
+            Err(failed(pending, error))
+        }
         Ok(given) => Ok(Some(Reading::Listed(Caller::Value(pending), opened, given))),
     }
 }
@@ -113,7 +130,10 @@ fn colon_item(pending: Pending) -> Result<Option<Reading>, AllocError>
     let Pending { frames, purpose } = pending;
     let mut frames = frames;
     match pop(&mut frames) {
-        None => colon_argument(purpose),
+        None => {
+            drop(frames);
+            colon_argument(purpose)
+        }
         Some(frame) => colon_in(frame, Pending { frames, purpose }),
     }
 }
@@ -128,9 +148,13 @@ fn numbered(
     ensures { IfOk result (λ next. Goes next (need place Word.Number own.now (stack_of pending.frames) (purpose_view pending.purpose))) }
 {
     let imaginary = has_unit(own);
-    let text = Text::from_bytes(alloc, digits(own))?;
-    let part = number(place, text, imaginary);
-    Ok(Some(Reading::Have(Compound { part }, pending)))
+    match Text::from_bytes(alloc, digits(own)) {
+        Err(error) => Err(failed(pending, error)),
+        Ok(text) => {
+            let part = number(place, text, imaginary);
+            Ok(Some(Reading::Have(Compound { part }, pending)))
+        }
+    }
 }
 
 fn worded(place: Place, found: Option<Text>, pending: Pending) -> Option<Reading>

@@ -36,6 +36,8 @@ fn tightness(word: Word) -> u32
 fn refuse(part: Part, pending: Pending) -> Option<Reading>
     ensures { Goes result Stuck }
 {
+    drop(part);
+    drop(pending);
     None
 }
 
@@ -43,6 +45,7 @@ fn refuse(part: Part, pending: Pending) -> Option<Reading>
 fn refuse_behind(first: Part, part: Part, pending: Pending) -> Option<Reading>
     ensures { Goes result Stuck }
 {
+    drop(first);
     refuse(part, pending)
 }
 
@@ -50,21 +53,25 @@ fn refuse_behind(first: Part, part: Part, pending: Pending) -> Option<Reading>
 fn refuse_in(part: Part, frame: Frame, pending: Pending) -> Option<Reading>
     ensures { Goes result Stuck }
 {
+    drop(frame);
     refuse(part, pending)
 }
 
 /// A refusal, which ends what waits.
 fn failed(pending: Pending, error: AllocError) -> AllocError {
+    drop(pending);
     error
 }
 
 /// A refusal, which ends an operand.
 fn part_failed(part: Part, error: AllocError) -> AllocError {
+    drop(part);
     error
 }
 
 /// A refusal in a bracket.
 fn grid_failed(grid: Grid, pending: Pending, error: AllocError) -> AllocError {
+    drop(grid);
     failed(pending, error)
 }
 
@@ -153,8 +160,14 @@ fn under(pending: Pending, frame: Frame) -> Result<Pending, AllocError>
 {
     let Pending { frames, purpose } = pending;
     let mut frames = frames;
-    push(&mut frames, frame)?;
-    Ok(Pending { frames, purpose })
+    match push(&mut frames, frame) {
+        Ok(()) => Ok(Pending { frames, purpose }),
+        Err(error) => {
+            drop(frames);
+            drop(purpose);
+            Err(error)
+        }
+    }
 }
 
 /// A colon behind the first part of a range that begins in this frame.
@@ -225,6 +238,7 @@ fn purpose_of(pending: Pending) -> Purpose
     ensures { result ≡ pending.purpose }
 {
     let Pending { frames, purpose } = pending;
+    drop(frames);
     purpose
 }
 

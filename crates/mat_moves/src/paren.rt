@@ -6,11 +6,12 @@ ghost use Rattle.mat_ast.specs.View.{expr_view, args_view};
 ghost use Rattle.mat_grammar.specs.Machine.{need, begun, listed, argued, applied, used, caller_stack, caller_purpose, need_in, with_item, Stuck};
 ghost use Rattle.mat_parts.specs.Pending.{frame_view, stack_of, purpose_view, use_view, caller_view, Goes};
 
+use crate::blocks::done;
 use crate::expression::operand;
 use fic_base::Place;
 use mat_ast::Ident;
 use mat_grammar::Word;
-use mat_parts::body::{and_step, multi};
+use mat_parts::body::multi;
 use mat_parts::part::{Compound, Given, Part, and_item, apply, no_args};
 use mat_parts::pending::{Caller, Frame, Opened, Pending, Purpose, Reading, Use};
 use mat_parts::stack::push;
@@ -32,8 +33,14 @@ fn argument_of(
         Caller::Value(pending) => {
             let Pending { frames, purpose } = pending;
             let mut frames = frames;
-            push(&mut frames, Frame::Call(opened, given))?;
-            Ok(Pending { frames, purpose })
+            match push(&mut frames, Frame::Call(opened, given)) {
+                Ok(()) => Ok(Pending { frames, purpose }),
+                Err(error) => {
+                    drop(frames);
+                    drop(purpose);
+                    Err(error)
+                }
+            }
         }
         Caller::Statement(belongs) => Ok(Pending {
             frames: Items::new(alloc),
@@ -70,6 +77,10 @@ fn used(belongs: Use, opened: Opened, given: Given) -> Result<Option<Reading>, A
     match belongs {
         Use::Target(steps, around) => {
             if is_empty(&given) {
+                drop(given);
+                drop(opened);
+                drop(steps);
+                drop(around);
                 return Ok(None);
             }
             let Opened { place, text, opens } = opened;
@@ -77,8 +88,7 @@ fn used(belongs: Use, opened: Opened, given: Given) -> Result<Option<Reading>, A
         }
         Use::Callee(steps, targets, around) => {
             let call = apply(opened.place, opened.text, opened.opens, given);
-            let steps = and_step(steps, multi(targets, call))?;
-            Ok(Some(Reading::After(steps, around)))
+            done(steps, multi(targets, call), around)
         }
     }
 }
@@ -122,6 +132,9 @@ pub fn begun(
 fn refuse(caller: Caller, opened: Opened, given: Given) -> Option<Reading>
     ensures { Goes result Stuck }
 {
+    drop(given);
+    drop(opened);
+    drop(caller);
     None
 }
 
@@ -129,11 +142,14 @@ fn refuse(caller: Caller, opened: Opened, given: Given) -> Option<Reading>
 fn refuse_behind(part: Part, caller: Caller, opened: Opened, given: Given) -> Option<Reading>
     ensures { Goes result Stuck }
 {
+    drop(part);
     refuse(caller, opened, given)
 }
 
 /// A refusal, which ends what waits.
 fn failed(caller: Caller, opened: Opened, error: AllocError) -> AllocError {
+    drop(opened);
+    drop(caller);
     error
 }
 

@@ -6,12 +6,14 @@ ghost use Rattle.mat_ast.specs.View.{expr_view, args_view, block_view, stmt_view
 ghost use Rattle.mat_grammar.specs.Machine.{within, after, purposed, named, subscripted, targeted, calling, called, looping, looped, Need, ident_at, with_statement};
 ghost use Rattle.mat_parts.specs.Pending.{stack_of, purpose_view, around_view, body_view, Goes};
 
-use crate::blocks::{after, block_ended, enter};
+use crate::blocks::{after, block_ended, done, enter};
 use crate::paren::argued;
 use fic_base::{Place, Text};
 use mat_ast::Ident;
 use mat_grammar::Word;
-use mat_parts::body::{Steps, and_step, assign, break_off, go_on, multi, no_arms, no_steps, store};
+use mat_parts::body::{
+    Step, Steps, and_step, assign, break_off, go_on, multi, no_arms, no_steps, store,
+};
 use mat_parts::name_list::ident;
 use mat_parts::part::{Given, Part, name, no_args};
 use mat_parts::pending::{Around, Body, Caller, Lister, Opened, Pending, Purpose, Reading, Use};
@@ -27,6 +29,32 @@ fn owed(alloc: Global, purpose: Purpose) -> Option<Reading>
         frames: Items::new(alloc),
         purpose,
     }))
+}
+
+/// A refusal, which ends what waits.
+fn failed(steps: Steps, around: Around, error: AllocError) -> AllocError {
+    drop(steps);
+    drop(around);
+    error
+}
+
+/// What comes at a word behind one more statement. Want of memory is its only refusal.
+fn behind(
+    alloc: Global,
+    word: Word,
+    steps: Steps,
+    step: Step,
+    around: Around,
+) -> Result<Option<Reading>, AllocError>
+    ensures { IfOk result (λ next. Goes next (after word (with_statement (block_view steps.body) (stmt_view step.stmt)) (around_view around))) }
+{
+    match and_step(steps, step) {
+        Ok(steps) => after(alloc, word, steps, around),
+        Err(error) => {
+            drop(around);
+            Err(error)
+        }
+    }
 }
 
 /// What comes at a word where a statement may come. Want of memory is its only refusal.
@@ -45,22 +73,16 @@ pub fn within(
         Word::Newline => Ok(Some(Reading::Within(steps, around))),
         Word::Semicolon => Ok(Some(Reading::Within(steps, around))),
         Word::Comma => Ok(Some(Reading::Within(steps, around))),
-        Word::Name => {
-            let name = ident(alloc, place, own)?;
-            Ok(Some(Reading::Named(steps, name, around)))
-        }
+        Word::Name => match ident(alloc, place, own) {
+            Ok(name) => Ok(Some(Reading::Named(steps, name, around))),
+            Err(error) => Err(failed(steps, around, error)),
+        },
         Word::OpenSquare => Ok(Some(Reading::Edge(Lister::Targets(steps, around)))),
         Word::If => Ok(owed(alloc, Purpose::Arm(steps, place, no_arms(alloc), around))),
         Word::For => Ok(Some(Reading::Looping(steps, place, around))),
         Word::While => Ok(owed(alloc, Purpose::While(steps, place, around))),
-        Word::Break => {
-            let steps = and_step(steps, break_off(place))?;
-            Ok(Some(Reading::After(steps, around)))
-        }
-        Word::Continue => {
-            let steps = and_step(steps, go_on(place))?;
-            Ok(Some(Reading::After(steps, around)))
-        }
+        Word::Break => done(steps, break_off(place), around),
+        Word::Continue => done(steps, go_on(place), around),
         _ => block_ended(alloc, word, steps, around),
     }
 }
@@ -93,13 +115,9 @@ pub fn purposed(
     ensures { IfOk result (λ next. Goes next (purposed place word own.now (expr_view part.expr) (purpose_view purpose))) }
 {
     match purpose {
-        Purpose::Assign(steps, to, around) => {
-            let steps = and_step(steps, assign(to, part))?;
-            after(alloc, word, steps, around)
-        }
+        Purpose::Assign(steps, to, around) => behind(alloc, word, steps, assign(to, part), around),
         Purpose::Store(steps, to, opens, given, around) => {
-            let steps = and_step(steps, store(to, opens, given, part))?;
-            after(alloc, word, steps, around)
+            behind(alloc, word, steps, store(to, opens, given, part), around)
         }
         Purpose::Arm(steps, at, cases, around) => {
             let body = Body::If(steps, at, cases, part);
@@ -144,7 +162,12 @@ pub fn named(
                 Purpose::Argument(Use::Target(steps, around), opened, no_args(alloc)),
             )
         }
-        _ => None,
+        _ => {
+            drop(to);
+            drop(steps);
+            drop(around);
+            None
+        }
     }
 }
 
@@ -163,7 +186,13 @@ pub fn subscripted(
 {
     match word {
         Word::Equal => owed(alloc, Purpose::Store(steps, to, opens, given, around)),
-        _ => None,
+        _ => {
+            drop(given);
+            drop(to);
+            drop(steps);
+            drop(around);
+            None
+        }
     }
 }
 
@@ -174,7 +203,12 @@ pub fn targeted(word: Word, steps: Steps, targets: Items<Ident>, around: Around)
 {
     match word {
         Word::Equal => Some(Reading::Calling(steps, targets, around)),
-        _ => None,
+        _ => {
+            drop(targets);
+            drop(steps);
+            drop(around);
+            None
+        }
     }
 }
 
@@ -192,11 +226,19 @@ pub fn calling(
     ensures { IfOk result (λ next. Goes next (calling place word own.now (block_view steps.body) targets (around_view around))) }
 {
     match word {
-        Word::Name => {
-            let text = Text::from_bytes(alloc, own)?;
-            Ok(Some(Reading::Called(steps, targets, place, text, around)))
+        Word::Name => match Text::from_bytes(alloc, own) {
+            Ok(text) => Ok(Some(Reading::Called(steps, targets, place, text, around))),
+            Err(error) => {
+                drop(targets);
+                Err(failed(steps, around, error))
+            }
+        },
+        _ => {
+            drop(targets);
+            drop(steps);
+            drop(around);
+            Ok(None)
         }
-        _ => Ok(None),
     }
 }
 
@@ -224,10 +266,7 @@ pub fn called(
             let caller = Caller::Statement(Use::Callee(steps, targets, around));
             Ok(Some(Reading::Begun(caller, opened)))
         }
-        _ => {
-            let steps = and_step(steps, multi(targets, name(at, text)))?;
-            after(alloc, word, steps, around)
-        }
+        _ => behind(alloc, word, steps, multi(targets, name(at, text)), around),
     }
 }
 
@@ -245,11 +284,15 @@ pub fn looping(
     ensures { IfOk result (λ next. Goes next (looping place word own.now (block_view steps.body) at (around_view around))) }
 {
     match word {
-        Word::Name => {
-            let name = ident(alloc, place, own)?;
-            Ok(Some(Reading::Looped(steps, at, name, around)))
+        Word::Name => match ident(alloc, place, own) {
+            Ok(name) => Ok(Some(Reading::Looped(steps, at, name, around))),
+            Err(error) => Err(failed(steps, around, error)),
+        },
+        _ => {
+            drop(steps);
+            drop(around);
+            Ok(None)
         }
-        _ => Ok(None),
     }
 }
 
@@ -267,6 +310,11 @@ pub fn looped(
 {
     match word {
         Word::Equal => owed(alloc, Purpose::For(steps, at, to, around)),
-        _ => None,
+        _ => {
+            drop(to);
+            drop(steps);
+            drop(around);
+            None
+        }
     }
 }
