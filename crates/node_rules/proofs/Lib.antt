@@ -15,3 +15,5 @@ pub mod Stored
 pub mod Indices
 pub mod Spans
 pub mod Rows
+pub mod Ranges
+pub mod RangeRows

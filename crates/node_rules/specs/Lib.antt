@@ -15,3 +15,4 @@ pub mod Transposes
 pub mod Subscripts
 pub mod Stores
 pub mod Sums
+pub mod Ranges

@@ -12,6 +12,7 @@ ghost use Rattle.fi_rules.specs.Value.{Val};
 ghost use Rattle.fi_rules.specs.declared.work.Work.{Work};
 ghost use Rattle.fi_values.specs.Arithmetic.{is_arithmetic, arithmetic};
 ghost use Rattle.fi_values.specs.Numbers.{is_bound};
+ghost use Rattle.fi_values.specs.Ranges.{ranged};
 ghost use Rattle.fi_values.specs.Sums.{Along, summed_value};
 ghost use Rattle.fi_values.specs.Transposes.{transposed};
 ghost use Rattle.fi_meaning.specs.Operators.{by_operator, by_sign};
@@ -19,6 +20,7 @@ ghost use Rattle.node_rules.specs.Agrees.{Tells, evaluated_read, evaluated_store
 ghost use Rattle.node_rules.specs.Operators.{pair_ruled, pair_value};
 ghost use Rattle.fi_meaning.specs.Statements.{item_value};
 ghost use Rattle.node_rules.specs.Pairs.{Span, IsIn, span_worked, items_worked, arithmetic_value};
+ghost use Rattle.node_rules.specs.Ranges.{range_ruled, range_value};
 ghost use Rattle.node_rules.specs.Ruled.{Fine, given};
 ghost use Rattle.node_rules.specs.Signs.{sign_ruled, sign_value};
 ghost use Rattle.node_rules.specs.Stores.{store_ruled, store_value};
@@ -69,4 +71,10 @@ pub fn indices_go_by_their_rules()
     ensures value { (w : Work) (lo hi a b : ℤ) → is_arithmetic w ≡ true → is_bound a ≡ true → is_bound b ≡ true → nat_abs (items_worked w a b) < 2 ^ 53
         → arithmetic w (item_value a) (item_value b) ≡ Some (arithmetic_value w (IndexNode lo hi) (item_value a) (item_value b)) }
     ensures span { (w : Work) (a b : ℤ) (p q : Span) → is_arithmetic w ≡ true → IsIn p a → IsIn q b → IsIn (span_worked w p q) (items_worked w a b) }
+{}
+
+/// A range gives what its rule says: a row of numbers exactly where the conditions hold on the types of its bounds and its step, and then the
+/// row that is the type of the node.
+pub fn ranges_go_by_their_rule()
+    ensures { (first step last : Val) → ranged first step last ≡ given (range_ruled (ty_of first) (ty_of step) (ty_of last)) range_value }
 {}
