@@ -17,3 +17,5 @@ pub mod Spans
 pub mod Rows
 pub mod Ranges
 pub mod RangeRows
+pub mod Bits
+pub mod BitRows

@@ -15,7 +15,7 @@ use Rattle.node_rules.specs.Ruled.{Missing, Shows, Most, bind, needed, tested}
 use Rattle.node_rules.specs.Types.{NodeTy, LogicalNode, NumberNode, IndexNode, TextNode, is_index, known}
 use Rattle.node_rules.proofs.Rows.{a2}
 
-abbrev number : ℤ → NodeTy
+abbrev pub number : ℤ → NodeTy
 number z = NumberNode scalar (whole z ∷ []) None
 
 abbrev half : Exact

@@ -16,3 +16,4 @@ pub mod Subscripts
 pub mod Stores
 pub mod Sums
 pub mod Ranges
+pub mod Bits

@@ -11,12 +11,17 @@ ghost use Rattle.mat_ast.specs.declared.tree.UnOp.{UnOp};
 ghost use Rattle.fi_rules.specs.Value.{Val};
 ghost use Rattle.fi_rules.specs.declared.work.Work.{Work};
 ghost use Rattle.fi_values.specs.Arithmetic.{is_arithmetic, arithmetic};
+ghost use Rattle.fi_ops.specs.Elements.{Element};
+ghost use Rattle.fi_rules.specs.Options.{◌|>◌};
+ghost use Rattle.fi_values.specs.Bits.{two_typed, turned_bits, shifted, bits_between};
 ghost use Rattle.fi_values.specs.Numbers.{is_bound};
 ghost use Rattle.fi_values.specs.Ranges.{ranged};
 ghost use Rattle.fi_values.specs.Sums.{Along, summed_value};
 ghost use Rattle.fi_values.specs.Transposes.{transposed};
+ghost use Rattle.fi_meaning.specs.Functions.{natural};
 ghost use Rattle.fi_meaning.specs.Operators.{by_operator, by_sign};
 ghost use Rattle.node_rules.specs.Agrees.{Tells, evaluated_read, evaluated_store};
+ghost use Rattle.node_rules.specs.Bits.{bits_paired, paired_value, complemented_ruled, complemented_value, shifted_ruled, shifted_value, sliced_ruled, sliced_value};
 ghost use Rattle.node_rules.specs.Operators.{pair_ruled, pair_value};
 ghost use Rattle.fi_meaning.specs.Statements.{item_value};
 ghost use Rattle.node_rules.specs.Pairs.{Span, IsIn, span_worked, items_worked, arithmetic_value};
@@ -77,4 +82,25 @@ pub fn indices_go_by_their_rules()
 /// row that is the type of the node.
 pub fn ranges_go_by_their_rule()
     ensures { (first step last : Val) → ranged first step last ≡ given (range_ruled (ty_of first) (ty_of step) (ty_of last)) range_value }
+{}
+
+/// A function on the bits of two operands gives what its rule says, whichever it is: a value exactly where the conditions of the rule hold, and
+/// then the value of the node at the type that the rule gives.
+pub fn bit_pairs_go_by_their_rule()
+    ensures { (f : Element → Element → ℤ) (v w : Val) → two_typed f v w ≡ given (bits_paired (ty_of v) (ty_of w)) (λ t. paired_value f t v w) }
+{}
+
+/// `bitcmp` gives what its rule says, likewise.
+pub fn bit_complements_go_by_their_rule()
+    ensures { (v : Val) → turned_bits v ≡ given (complemented_ruled (ty_of v)) (λ t. complemented_value t v) }
+{}
+
+/// A shift by a constant gives what its rule says, whichever it is, likewise.
+pub fn shifts_go_by_their_rule()
+    ensures { (f : ℕ → Element → ℤ) (v k : Val) → (natural k |> (λ n. shifted f n v)) ≡ given (shifted_ruled (ty_of v) (ty_of k)) (λ t. shifted_value f t v k) }
+{}
+
+/// `bitsliceget` gives what its rule says, likewise.
+pub fn bit_slices_go_by_their_rule()
+    ensures { (v l r : Val) → (natural l |> (λ l. natural r |> (λ r. bits_between l r v))) ≡ given (sliced_ruled (ty_of v) (ty_of l) (ty_of r)) (λ t. sliced_value t v l r) }
 {}
