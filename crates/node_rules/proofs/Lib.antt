@@ -19,3 +19,6 @@ pub mod Ranges
 pub mod RangeRows
 pub mod Bits
 pub mod BitRows
+pub mod Parted
+pub mod Queries
+pub mod PartedRows

@@ -17,3 +17,5 @@ pub mod Stores
 pub mod Sums
 pub mod Ranges
 pub mod Bits
+pub mod Parted
+pub mod Queries

@@ -1,6 +1,6 @@
-//! The rules of nodes: for an operator, a sign, a transpose, a sum, a subscripted read and a subscripted assignment, on operands of which types
-//! it is defined, with the conditions in the order of their codes, the type of its result, and the value of its node at that type. Laws:
-//! evaluation goes by these rules.
+//! The rules of nodes: for an operator, a sign, a transpose, a sum, a range, functions on bits, on parts of complex values and on shapes, a
+//! subscripted read and a subscripted assignment, on operands of which types it is defined, with the conditions in the order of their codes, the
+//! type of its result, and the value of its node at that type. Laws: evaluation goes by these rules.
 #![tactic(auto)]
 
 ghost use Rattle.std.specs.Prelude.{◌≡◌, ◌<◌, ◌^◌, ℕ, ℤ, List, Option, Some, true, nat_abs};
@@ -15,16 +15,19 @@ ghost use Rattle.fi_ops.specs.Elements.{Element};
 ghost use Rattle.fi_rules.specs.Options.{◌|>◌};
 ghost use Rattle.fi_values.specs.Bits.{two_typed, turned_bits, shifted, bits_between};
 ghost use Rattle.fi_values.specs.Numbers.{is_bound};
+ghost use Rattle.fi_values.specs.Queries.{real_part, imaginary_part, complex_of, element_count, greater_extent, extent_of};
 ghost use Rattle.fi_values.specs.Ranges.{ranged};
 ghost use Rattle.fi_values.specs.Sums.{Along, summed_value};
 ghost use Rattle.fi_values.specs.Transposes.{transposed};
-ghost use Rattle.fi_meaning.specs.Functions.{natural};
+ghost use Rattle.fi_meaning.specs.Functions.{natural, conjugate_of};
 ghost use Rattle.fi_meaning.specs.Operators.{by_operator, by_sign};
 ghost use Rattle.node_rules.specs.Agrees.{Tells, evaluated_read, evaluated_store};
 ghost use Rattle.node_rules.specs.Bits.{bits_paired, paired_value, complemented_ruled, complemented_value, shifted_ruled, shifted_value, sliced_ruled, sliced_value};
 ghost use Rattle.node_rules.specs.Operators.{pair_ruled, pair_value};
 ghost use Rattle.fi_meaning.specs.Statements.{item_value};
 ghost use Rattle.node_rules.specs.Pairs.{Span, IsIn, span_worked, items_worked, arithmetic_value};
+ghost use Rattle.node_rules.specs.Parted.{part_ruled, real_value, imaginary_value, conjugate_ruled, conjugate_value, complex_ruled, complex_value};
+ghost use Rattle.node_rules.specs.Queries.{numel_ruled, length_ruled, size_ruled};
 ghost use Rattle.node_rules.specs.Ranges.{range_ruled, range_value};
 ghost use Rattle.node_rules.specs.Ruled.{Fine, given};
 ghost use Rattle.node_rules.specs.Signs.{sign_ruled, sign_value};
@@ -32,7 +35,7 @@ ghost use Rattle.node_rules.specs.Stores.{store_ruled, store_value};
 ghost use Rattle.node_rules.specs.Subscripts.{SoundItems, item_types, read_ruled, read_value};
 ghost use Rattle.node_rules.specs.Sums.{sum_ruled, sum_value};
 ghost use Rattle.node_rules.specs.Transposes.{post_ruled, post_value};
-ghost use Rattle.node_rules.specs.Types.{NodeTy, IndexNode, ty_of};
+ghost use Rattle.node_rules.specs.Types.{NodeTy, IndexNode, ty_of, known};
 
 /// An operator with two operands gives what its rule says: a value exactly where the conditions of the rule hold on the types of the operands,
 /// and then the value of the node at the type that the rule gives.
@@ -103,4 +106,24 @@ pub fn shifts_go_by_their_rule()
 /// `bitsliceget` gives what its rule says, likewise.
 pub fn bit_slices_go_by_their_rule()
     ensures { (v l r : Val) → (natural l |> (λ l. natural r |> (λ r. bits_between l r v))) ≡ given (sliced_ruled (ty_of v) (ty_of l) (ty_of r)) (λ t. sliced_value t v l r) }
+{}
+
+/// `real`, `imag` and `conj` give what their rules say, likewise.
+pub fn parts_go_by_their_rules()
+    ensures real { (v : Val) → real_part v ≡ given (part_ruled (ty_of v)) (λ t. real_value t v) }
+    ensures imaginary { (v : Val) → imaginary_part v ≡ given (part_ruled (ty_of v)) (λ t. imaginary_value t v) }
+    ensures conjugates { (v : Val) → conjugate_of v ≡ given (conjugate_ruled (ty_of v)) (λ t. conjugate_value v) }
+{}
+
+/// `complex` gives what its rule says, likewise.
+pub fn complex_values_go_by_their_rule()
+    ensures { (v w : Val) → complex_of v w ≡ given (complex_ruled (ty_of v) (ty_of w)) (λ t. complex_value t v w) }
+{}
+
+/// `numel`, `length` and `size` give what their rules say: a number exactly where the conditions hold, and then the one that is the type of the
+/// node.
+pub fn queries_go_by_their_rules()
+    ensures numel { (v : Val) → element_count v ≡ given (numel_ruled (ty_of v)) known }
+    ensures length { (v : Val) → greater_extent v ≡ given (length_ruled (ty_of v)) known }
+    ensures size { (v d : Val) → (natural d |> (λ n. extent_of n v)) ≡ given (size_ruled (ty_of v) (ty_of d)) known }
 {}
