@@ -35,9 +35,9 @@ stepped e first step last o cx env ends x s r is some h k t =
 
 -- ---- the right operand of an operator
 
-pub plain_told : (r : Result Value Halt) (at : Place) (op : BinOp) (o : Option Bool) (x : Val) (right : Got Place Val) → o ≡ None → Tells r value_view (right >>= (λ y. or_wrong at (by_operator op x y))) → Tells r value_view (behind_left at op o x right)
+pub operands_told : (r : Result Value Halt) (at : Place) (op : BinOp) (o : Option Bool) (x : Val) (right : Got Place Val) → o ≡ None → Tells r value_view (right >>= (λ y. or_wrong at (by_operator op x y))) → Tells r value_view (behind_left at op o x right)
 unfolding behind_left
-plain_told r at op o x right h t = subst (λ o. Tells r value_view (behind_left at op o x right)) (sym h) t
+operands_told r at op o x right h t = subst (λ o. Tells r value_view (behind_left at op o x right)) (sym h) t
 
 pub skipping_told : (r : Result Value Halt) (at : Place) (op : BinOp) (o : Option Bool) (b : Bool) (x : Val) (right : Got Place Val) → o ≡ Some b → Tells r value_view (behind_left at op (Some b) x right) → Tells r value_view (behind_left at op o x right)
 skipping_told r at op o b x right h t = subst (λ o. Tells r value_view (behind_left at op o x right)) (sym h) t

@@ -10,6 +10,7 @@ use eval_call::Argument;
 use eval_value::{Halt, Value};
 use fic_base::Place;
 use num_type::Memory;
+use sqlite_items::Boxed;
 use std::alloc::Global;
 
 /// The arguments of a call so far.
@@ -36,7 +37,7 @@ impl Passed {
 
     /// Adds an argument, none for `:`. Want of memory is the only refusal.
     #[tactic(auto, unfolding(crate::specs::Items::with_item))]
-    pub fn push(&mut self, item: Option<Value>, is_word: bool) -> Result<(), Memory>
+    pub fn push(&mut self, item: Option<Boxed<Value>>, is_word: bool) -> Result<(), Memory>
         ensures { OnOk result (passed_view self.new ≡ items.with_item (passed_view self.old) (item_view item) is_word) }
     {
         match item {
@@ -45,6 +46,7 @@ impl Passed {
                 Ok(())
             }
             Some(value) => {
+                let value = value.into_inner();
                 self.arguments.push(Argument { value, is_word })?;
                 Ok(())
             }

@@ -43,7 +43,7 @@ pub fn assign<C: Caller>(
     ensures { Tells result (λ f. flow_view f (env_view names.new)) (bind (meaning.value (expr_view e.now) (context_of scope.now (C.called caller.now)) (env_view names.old) None) (λ v. Gives (Went (assigned to.now.text v (env_view names.old))))) }
 {
     let v = evaluate(e, alloc, scope, caller, names, None)?;
-    names.set(alloc, to.text.as_bytes(), v)?;
+    names.set(alloc, to.text.as_bytes(), v.into_inner())?;
     Ok(Flow::Went)
 }
 
@@ -62,7 +62,7 @@ pub fn store_into<C: Caller>(
     ensures { Tells result (λ f. flow_view f (env_view names.new)) (bind (meaning.value (expr_view e.now) (context_of scope.now (C.called caller.now)) (env_view names.old) None) (λ v. bind (variable (env_view names.old) to.now.place to.now.text) (λ old. bind (meaning.subscript_values (args_view args.now) (context_of scope.now (C.called caller.now)) (env_view names.old) to.now.place (Some old) 0 (meaning.args_count (args_view args.now))) (λ ks. bind (or_wrong to.now.place (as_subscripts ks)) (λ subs. bind (stored to.now.place (meaning.site_of opens) old subs v) (λ new. Gives (Went (assigned to.now.text new (env_view names.old))))))))) }
 {
     let v = evaluate(e, alloc, scope, caller, names, None)?;
-    let new = stored_value(args, alloc, scope, caller, names, to, opens, &v)?;
+    let new = stored_value(args, alloc, scope, caller, names, to, opens, v.get())?;
     names.set(alloc, to.text.as_bytes(), new)?;
     Ok(Flow::Went)
 }
@@ -190,7 +190,7 @@ fn one_output<C: Caller>(
 {
     let v = evaluate(e, alloc, scope, caller, names, None)?;
     let mut values = Vec::new(alloc);
-    values.push(v)?;
+    values.push(v.into_inner())?;
     Ok(values)
 }
 

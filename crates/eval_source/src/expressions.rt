@@ -23,8 +23,9 @@ use crate::arguments::Passed;
 use crate::caller::Caller;
 use crate::leaves::{called, end_value, is_word_item, name_value, number_value, text_value};
 use crate::parts::{
-    bracket_value, count_of, decides, end_in, has_decided, made_truth, number_of, pair_value,
-    range_value, read_value, right_truth, sign_value, transposed_value, truth_in, unit_step,
+    add_item, add_value, bracket_value, count_of, decides, end_in, has_decided, made_truth,
+    number_of, pair_value, range_value, read_value, right_truth, sign_value, transposed_value,
+    truth_in, unit_step,
 };
 use crate::scope::{Scope, is_listed};
 use crate::variables::Variables;
@@ -32,6 +33,7 @@ use eval_call::Argument;
 use eval_value::{Halt, Value};
 use fic_base::Place;
 use mat_ast::{Arg, BinOp, Expr, ExprKind, PostOp, Row, UnOp};
+use sqlite_items::Boxed;
 use std::alloc::Global;
 
 /// The value of an expression in the scope of a function, with the values of its variables; `ends` is what `end` means there. Halts exactly
@@ -45,7 +47,7 @@ pub fn evaluate<C: Caller>(
     caller: &C,
     names: &Variables,
     ends: Option<u32>,
-) -> Result<Value, Halt>
+) -> Result<Boxed<Value>, Halt>
     ensures { Tells result value_view (meaning.value (expr_view e.now) (context_of scope.now (C.called caller.now)) (env_view names.now) ends) }
 {
     let at = e.place;
@@ -124,7 +126,7 @@ fn unary<C: Caller>(
     ends: Option<u32>,
     at: Place,
     sign: UnOp,
-) -> Result<Value, Halt>
+) -> Result<Boxed<Value>, Halt>
     ensures { Tells result value_view (meaning.value (Unary at sign (expr_view part.now)) (context_of scope.now (C.called caller.now)) (env_view names.now) ends) }
 {
     let v = evaluate(part, alloc, scope, caller, names, ends)?;
@@ -143,7 +145,7 @@ fn post<C: Caller>(
     ends: Option<u32>,
     at: Place,
     mark: PostOp,
-) -> Result<Value, Halt>
+) -> Result<Boxed<Value>, Halt>
     ensures { Tells result value_view (meaning.value (Post at mark (expr_view part.now)) (context_of scope.now (C.called caller.now)) (env_view names.now) ends) }
 {
     let v = evaluate(part, alloc, scope, caller, names, ends)?;
@@ -161,8 +163,8 @@ fn to_last<C: Caller>(
     names: &Variables,
     ends: Option<u32>,
     at: Place,
-    first: Value,
-) -> Result<Value, Halt>
+    first: Boxed<Value>,
+) -> Result<Boxed<Value>, Halt>
     ensures { Tells result value_view (bind (meaning.value (expr_view last.now) (context_of scope.now (C.called caller.now)) (env_view names.now) ends) (λ y. or_wrong at (ranges.ranged (value_view first) (whole_value 1) y))) }
 {
     let y = evaluate(last, alloc, scope, caller, names, ends)?;
@@ -181,9 +183,9 @@ fn by_step<C: Caller>(
     names: &Variables,
     ends: Option<u32>,
     at: Place,
-    first: Value,
-    step: Value,
-) -> Result<Value, Halt>
+    first: Boxed<Value>,
+    step: Boxed<Value>,
+) -> Result<Boxed<Value>, Halt>
     ensures { Tells result value_view (bind (meaning.value (expr_view last.now) (context_of scope.now (C.called caller.now)) (env_view names.now) ends) (λ y. or_wrong at (ranges.ranged (value_view first) (value_view step) y))) }
 {
     let y = evaluate(last, alloc, scope, caller, names, ends)?;
@@ -202,12 +204,12 @@ fn behind_left<C: Caller>(
     ends: Option<u32>,
     at: Place,
     op: BinOp,
-    left: Value,
-) -> Result<Value, Halt>
+    left: Boxed<Value>,
+) -> Result<Boxed<Value>, Halt>
     ensures { Tells result value_view (meaning.behind_left at op (logicals.deciding op) (value_view left) (meaning.value (expr_view right.now) (context_of scope.now (C.called caller.now)) (env_view names.now) ends)) }
 {
     match decides(op) {
-        None => plain(right, alloc, scope, caller, names, ends, at, op, left),
+        None => evaluate_operands(right, alloc, scope, caller, names, ends, at, op, left),
         Some(truth) => skipping(
             right, alloc, scope, caller, names, ends, at, op, truth, left,
         ),
@@ -227,8 +229,8 @@ fn skipping<C: Caller>(
     at: Place,
     op: BinOp,
     deciding: bool,
-    left: Value,
-) -> Result<Value, Halt>
+    left: Boxed<Value>,
+) -> Result<Boxed<Value>, Halt>
     ensures { Tells result value_view (meaning.behind_left at op (Some deciding) (value_view left) (meaning.value (expr_view right.now) (context_of scope.now (C.called caller.now)) (env_view names.now) ends)) }
 {
     let truth = truth_in(left);
@@ -251,17 +253,17 @@ fn deciding_right<C: Caller>(
     ends: Option<u32>,
     at: Place,
     left: Option<bool>,
-) -> Result<Value, Halt>
+) -> Result<Boxed<Value>, Halt>
     ensures { Tells result value_view (bind (meaning.value (expr_view right.now) (context_of scope.now (C.called caller.now)) (env_view names.now) ends) (λ y. or_wrong at (meaning.right_decides left y))) }
 {
     let y = evaluate(right, alloc, scope, caller, names, ends)?;
     right_truth(alloc, at, left, y)
 }
 
-// The right operand of another operator.
+// The right operand of an operator that evaluates both, behind the left one.
 #[cycle(evaluate)]
 #[tactic(auto, using(crate::proofs::Follow::after_err, crate::proofs::Follow::chosen, crate::proofs::Follow::not_chosen), unfolding(fi_eval::specs::Outcome::bind))]
-fn plain<C: Caller>(
+fn evaluate_operands<C: Caller>(
     right: &Expr,
     alloc: Global,
     scope: &Scope<'_>,
@@ -270,8 +272,8 @@ fn plain<C: Caller>(
     ends: Option<u32>,
     at: Place,
     op: BinOp,
-    left: Value,
-) -> Result<Value, Halt>
+    left: Boxed<Value>,
+) -> Result<Boxed<Value>, Halt>
     ensures { Tells result value_view (bind (meaning.value (expr_view right.now) (context_of scope.now (C.called caller.now)) (env_view names.now) ends) (λ y. or_wrong at (by_operator op (value_view left) y))) }
 {
     let y = evaluate(right, alloc, scope, caller, names, ends)?;
@@ -289,7 +291,7 @@ fn matrix<C: Caller>(
     names: &Variables,
     ends: Option<u32>,
     at: Place,
-) -> Result<Value, Halt>
+) -> Result<Boxed<Value>, Halt>
     ensures { Tells result value_view (meaning.value (Matrix at (view.rows_view rows.now)) (context_of scope.now (C.called caller.now)) (env_view names.now) ends) }
 {
     let values = rows_values(rows, alloc, scope, caller, names, ends)?;
@@ -349,7 +351,7 @@ fn cell_values<C: Caller>(
     let mut values = Vec::new(alloc);
     for cell in cells {
         let v = evaluate(cell, alloc, scope, caller, names, ends)?;
-        values.push(v)?;
+        add_value(&mut values, v)?;
     }
     Ok(values)
 }
@@ -367,7 +369,7 @@ fn apply<C: Caller>(
     at: Place,
     opens: Place,
     name: &[u8],
-) -> Result<Value, Halt>
+) -> Result<Boxed<Value>, Halt>
     ensures { Tells result value_view (meaning.value (Apply at name.now opens (args_view args.now)) (context_of scope.now (C.called caller.now)) (env_view names.now) ends) }
 {
     if is_listed(name, scope.variables) {
@@ -390,7 +392,7 @@ fn read_at<C: Caller>(
     at: Place,
     opens: Place,
     name: &[u8],
-) -> Result<Value, Halt>
+) -> Result<Boxed<Value>, Halt>
     ensures { Tells result value_view (bind (meaning.subscript_values (args_view args.now) (context_of scope.now (C.called caller.now)) (env_view names.now) at (env_view names.now name.now) 0 (meaning.args_count (args_view args.now))) (λ vs. bind (variable (env_view names.now) at name.now) (λ v. bind (or_wrong at (as_subscripts vs)) (λ subs. reads.read at (meaning.site_of opens) v subs)))) }
 {
     let many = count_of(args);
@@ -410,7 +412,7 @@ fn call_at<C: Caller>(
     ends: Option<u32>,
     at: Place,
     name: &[u8],
-) -> Result<Value, Halt>
+) -> Result<Boxed<Value>, Halt>
     ensures { Tells result value_view (bind (meaning.arguments (args_view args.now) (context_of scope.now (C.called caller.now)) (env_view names.now) at ends) (meaning.called (context_of scope.now (C.called caller.now)) at name.now)) }
 {
     let passed = arguments(args, alloc, scope, caller, names, ends, at)?;
@@ -458,7 +460,7 @@ pub fn subscript_values<C: Caller>(
     for arg in args {
         let inside = end_in(names, name, number_of(&values), many);
         let v = item(arg, alloc, scope, caller, names, inside)?;
-        values.push(v)?;
+        add_item(&mut values, v)?;
     }
     Ok(values)
 }
@@ -473,7 +475,7 @@ fn item<C: Caller>(
     caller: &C,
     names: &Variables,
     ends: Option<u32>,
-) -> Result<Option<Value>, Halt>
+) -> Result<Option<Boxed<Value>>, Halt>
     ensures { Tells result item_view (item_value (arg_view arg.now) (context_of scope.now (C.called caller.now)) (env_view names.now) ends) }
 {
     match arg {

@@ -34,10 +34,10 @@ pub fn place_of(e: &Expr) -> Place
 }
 
 /// The truth of a condition; wrong at its place where it has none.
-pub fn truth_of(at: Place, value: Value) -> Result<bool, Halt>
+pub fn truth_of(at: Place, value: Boxed<Value>) -> Result<bool, Halt>
     ensures { Tells result (λ b. b) (or_wrong at (logicals.truth (value_view value))) }
 {
-    settled_truth(at, eval_bits::truth(&value))
+    settled_truth(at, eval_bits::truth(value.get()))
 }
 
 /// Whether a condition holds.
@@ -59,10 +59,16 @@ pub fn holds<C: Caller>(
 /// The items between bounds that are values, at most 1,048,576. Wrong at the range where the bounds aren't whole numbers within 2 ^ 31 - 1 of 0, and
 /// at the loop variable where there are more items.
 #[tactic(auto, using(crate::proofs::LoopItems::found_items))]
-pub fn items_at(at: Place, to: Place, first: Value, step: Value, last: Value) -> Result<Items, Halt>
+pub fn items_at(
+    at: Place,
+    to: Place,
+    first: Boxed<Value>,
+    step: Boxed<Value>,
+    last: Boxed<Value>,
+) -> Result<Items, Halt>
     ensures { Tells result items_view (bind (or_wrong at (items_of (value_view first) (value_view step) (value_view last))) (within to)) }
 {
-    let found = items_between(&first, &step, &last);
+    let found = items_between(first.get(), step.get(), last.get());
     settled_items(at, to, found)
 }
 
@@ -105,7 +111,7 @@ fn step_of<C: Caller>(
     scope: &Scope<'_>,
     caller: &C,
     names: &Variables,
-) -> Result<Value, Halt>
+) -> Result<Boxed<Value>, Halt>
     ensures { Tells result value_view (step_value (option_map expr_view step.now) (context_of scope.now (C.called caller.now)) (env_view names.now)) }
 {
     match step {

@@ -27,11 +27,17 @@ use eval_value::{Halt, Value, make_imaginary, make_number, make_whole};
 use fic_base::{Place, Refusal, Text};
 use mat_ast::{Arg, Expr, ExprKind};
 use num_type::{Dyadic, Memory, Stop};
+use sqlite_items::Boxed;
 use std::alloc::Global;
 
 /// The constant of a literal; imaginary ones are complex. Wrong at the place where it is none.
 #[tactic(auto, using(crate::proofs::Follow::after_ok, crate::proofs::Follow::after_err), unfolding(fi_eval::specs::Outcome::bind))]
-pub fn number_value(alloc: Global, at: Place, text: &[u8], imaginary: bool) -> Result<Value, Halt>
+pub fn number_value(
+    alloc: Global,
+    at: Place,
+    text: &[u8],
+    imaginary: bool,
+) -> Result<Boxed<Value>, Halt>
     ensures { Tells result value_view (bind (or_wrong at (literal_of text.now)) (λ c. Gives (meaning.literal imaginary c))) }
 {
     let c = constant_of(alloc, at, text)?;
@@ -60,36 +66,40 @@ fn halt_of(stop: Stop<Refusal>, at: Place) -> Halt
 
 // A constant, real or imaginary, as a value.
 #[tactic(auto, unfolding(fi_meaning::specs::Expressions::literal))]
-fn literal_value(alloc: Global, imaginary: bool, c: Dyadic) -> Result<Value, Halt>
+fn literal_value(alloc: Global, imaginary: bool, c: Dyadic) -> Result<Boxed<Value>, Halt>
     ensures { Tells result value_view (Gives (meaning.literal imaginary (exact_of c))) }
 {
     if imaginary {
         let v = make_imaginary(alloc, c)?;
-        Ok(v)
+        let kept = Boxed::new(alloc, v)?;
+        Ok(kept)
     } else {
         let v = make_number(alloc, c)?;
-        Ok(v)
+        let kept = Boxed::new(alloc, v)?;
+        Ok(kept)
     }
 }
 
 /// A text as a value.
-pub fn text_value(alloc: Global, text: &[u8]) -> Result<Value, Halt>
+pub fn text_value(alloc: Global, text: &[u8]) -> Result<Boxed<Value>, Halt>
     ensures { Tells result value_view (Gives (val.Words text.now)) }
 {
     let copy = Text::from_bytes(alloc, text)?;
-    Ok(Value::Words(copy))
+    let kept = Boxed::new(alloc, Value::Words(copy))?;
+    Ok(kept)
 }
 
 /// What `end` means; wrong at its place where it means nothing.
 #[tactic(auto, unfolding(fi_eval::specs::Outcome::bind, fi_eval::specs::Outcome::or_wrong))]
-pub fn end_value(alloc: Global, at: Place, ends: Option<u32>) -> Result<Value, Halt>
+pub fn end_value(alloc: Global, at: Place, ends: Option<u32>) -> Result<Boxed<Value>, Halt>
     ensures { Tells result value_view (bind (or_wrong at ends) (λ n. Gives (whole_value n))) }
 {
     match ends {
         None => Err(Halt::Wrong(at)),
         Some(n) => {
             let v = make_whole(alloc, n)?;
-            Ok(v)
+            let kept = Boxed::new(alloc, v)?;
+            Ok(kept)
         }
     }
 }
@@ -110,6 +120,20 @@ pub fn variable_value(
             Ok(copy)
         }
     }
+}
+
+// The same on the heap.
+fn boxed_variable(
+    alloc: Global,
+    names: &Variables,
+    at: Place,
+    name: &[u8],
+) -> Result<Boxed<Value>, Halt>
+    ensures { Tells result value_view (variable (env_view names.now) at name.now) }
+{
+    let v = variable_value(alloc, names, at, name)?;
+    let copy = Boxed::new(alloc, v)?;
+    Ok(copy)
 }
 
 // The values of arguments.
@@ -133,13 +157,30 @@ pub fn values_in(alloc: Global, args: Vec<Argument>) -> Result<Vec<Value>, Memor
 
 // The first output of a call.
 #[tactic(auto, unfolding(fi_meaning::specs::Expressions::only))]
-fn first_of(at: Place, values: Vec<Value>) -> Result<Value, Halt>
+fn first_of(alloc: Global, at: Place, values: Vec<Value>) -> Result<Boxed<Value>, Halt>
     ensures { Tells result value_view (meaning.only at (row_view values)) }
 {
     match values.into_iter().next() {
         None => Err(Halt::Wrong(at)),
-        Some(v) => Ok(v),
+        Some(v) => {
+            let kept = Boxed::new(alloc, v)?;
+            Ok(kept)
+        }
     }
+}
+
+// A call of a built-in function on arguments, which are let go.
+fn built_in_called(
+    alloc: Global,
+    at: Place,
+    name: &[u8],
+    args: Vec<Argument>,
+) -> Result<Boxed<Value>, Halt>
+    ensures { Tells result value_view (calls.called_name at name.now (map argument_view args.items)) }
+{
+    let v = call_built_in(alloc, at, name, args.as_slice())?;
+    let result = Boxed::new(alloc, v)?;
+    Ok(result)
 }
 
 /// A call of a function of the file, or else of a built-in one.
@@ -151,13 +192,13 @@ pub fn called<C: Caller>(
     at: Place,
     name: &[u8],
     args: Vec<Argument>,
-) -> Result<Value, Halt>
+) -> Result<Boxed<Value>, Halt>
     ensures { Tells result value_view (meaning.called (context_of scope.now (C.called caller.now)) at name.now (map argument_view args.items)) }
 {
     if is_listed(name, scope.functions) {
         called_function(alloc, caller, at, name, args)
     } else {
-        call_built_in(alloc, at, name, args.as_slice())
+        built_in_called(alloc, at, name, args)
     }
 }
 
@@ -169,12 +210,12 @@ fn called_function<C: Caller>(
     at: Place,
     name: &[u8],
     args: Vec<Argument>,
-) -> Result<Value, Halt>
+) -> Result<Boxed<Value>, Halt>
     ensures { Tells result value_view (bind (C.called caller.now at name.now (calls.values_of (map argument_view args.items)) 1) (meaning.only at)) }
 {
     let values = values_in(alloc, args)?;
     let outputs = caller.call(alloc, at, name, values, 1)?;
-    first_of(at, outputs)
+    first_of(alloc, at, outputs)
 }
 
 /// A name alone: a variable, or a call without arguments.
@@ -186,11 +227,11 @@ pub fn name_value<C: Caller>(
     names: &Variables,
     at: Place,
     name: &[u8],
-) -> Result<Value, Halt>
+) -> Result<Boxed<Value>, Halt>
     ensures { Tells result value_view (choose (meaning.is_listed name.now (names_in scope.now.variables.now)) (variable (env_view names.now) at name.now) (meaning.called (context_of scope.now (C.called caller.now)) at name.now [])) }
 {
     if is_listed(name, scope.variables) {
-        variable_value(alloc, names, at, name)
+        boxed_variable(alloc, names, at, name)
     } else {
         called(alloc, scope, caller, at, name, Vec::new(alloc))
     }

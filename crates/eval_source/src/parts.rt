@@ -1,6 +1,6 @@
 //! Values of expressions behind those of their parts.
 
-ghost use Rattle.std.specs.Prelude.{◌≡◌, Some, length, map};
+ghost use Rattle.std.specs.Prelude.{◌≡◌, ◌++◌, ◌∷◌, [], Some, length, map, OnOk};
 ghost use Rattle.mat_ast.specs.View.{args_view};
 ghost use Rattle.fi_rules.specs.Options.{◌|>◌};
 ghost use Rattle.fi_eval.specs.Outcome.{Gives, bind, or_wrong};
@@ -24,35 +24,50 @@ use eval_call::{operate, signed};
 use eval_value::{Halt, Value, make_truth, make_whole};
 use fic_base::Place;
 use mat_ast::{Arg, BinOp, PostOp, UnOp};
+use num_type::Memory;
+use sqlite_items::Boxed;
 use std::alloc::Global;
 
 // A value that has to be there; wrong at the place where there is none.
 #[tactic(auto, unfolding(fi_eval::specs::Outcome::or_wrong))]
-fn settled(at: Place, found: Option<Value>) -> Result<Value, Halt>
+fn settled(alloc: Global, at: Place, found: Option<Value>) -> Result<Boxed<Value>, Halt>
     ensures { Tells result value_view (or_wrong at (item_view found)) }
 {
     match found {
         None => Err(Halt::Wrong(at)),
-        Some(v) => Ok(v),
+        Some(v) => {
+            let kept = Boxed::new(alloc, v)?;
+            Ok(kept)
+        }
     }
 }
 
 /// A sign, or `~`, before a value.
 #[tactic(auto, using(crate::proofs::Follow::known))]
-pub fn sign_value(alloc: Global, at: Place, sign: UnOp, value: Value) -> Result<Value, Halt>
+pub fn sign_value(
+    alloc: Global,
+    at: Place,
+    sign: UnOp,
+    value: Boxed<Value>,
+) -> Result<Boxed<Value>, Halt>
     ensures { Tells result value_view (or_wrong at (operators.by_sign sign (value_view value))) }
 {
-    let found = signed(alloc, sign, &value)?;
-    settled(at, found)
+    let found = signed(alloc, sign, value.get())?;
+    settled(alloc, at, found)
 }
 
 /// A transpose.
 #[tactic(auto, using(crate::proofs::Follow::known))]
-pub fn transposed_value(alloc: Global, at: Place, mark: PostOp, value: Value) -> Result<Value, Halt>
+pub fn transposed_value(
+    alloc: Global,
+    at: Place,
+    mark: PostOp,
+    value: Boxed<Value>,
+) -> Result<Boxed<Value>, Halt>
     ensures { Tells result value_view (or_wrong at (transposes.transposed mark (value_view value))) }
 {
-    let found = transposed(alloc, mark, &value)?;
-    settled(at, found)
+    let found = transposed(alloc, mark, value.get())?;
+    settled(alloc, at, found)
 }
 
 /// A range.
@@ -60,40 +75,62 @@ pub fn transposed_value(alloc: Global, at: Place, mark: PostOp, value: Value) ->
 pub fn range_value(
     alloc: Global,
     at: Place,
-    first: Value,
-    step: Value,
-    last: Value,
-) -> Result<Value, Halt>
+    first: Boxed<Value>,
+    step: Boxed<Value>,
+    last: Boxed<Value>,
+) -> Result<Boxed<Value>, Halt>
     ensures { Tells result value_view (or_wrong at (ranges.ranged (value_view first) (value_view step) (value_view last))) }
 {
-    let found = ranged(alloc, &first, &step, &last)?;
-    settled(at, found)
+    let found = ranged(alloc, first.get(), step.get(), last.get())?;
+    settled(alloc, at, found)
 }
 
 /// The step of a range that has none: 1.
-pub fn unit_step(alloc: Global) -> Result<Value, Halt>
+pub fn unit_step(alloc: Global) -> Result<Boxed<Value>, Halt>
     ensures { Tells result value_view (Gives (whole_value 1)) }
 {
     let step = make_whole(alloc, 1)?;
-    Ok(step)
+    let kept = Boxed::new(alloc, step)?;
+    Ok(kept)
 }
 
 /// A bracket of rows of values.
 #[tactic(auto, using(crate::proofs::Follow::known))]
-pub fn bracket_value(alloc: Global, at: Place, rows: Vec<Vec<Value>>) -> Result<Value, Halt>
+pub fn bracket_value(alloc: Global, at: Place, rows: Vec<Vec<Value>>) -> Result<Boxed<Value>, Halt>
     ensures { Tells result value_view (or_wrong at (brackets.bracket (map row_view rows.items))) }
 {
     let found = bracket(alloc, rows.as_slice())?;
-    settled(at, found)
+    settled(alloc, at, found)
 }
 
 /// An operator between two values.
 #[tactic(auto, using(crate::proofs::Follow::known))]
-pub fn pair_value(alloc: Global, at: Place, op: BinOp, x: Value, y: Value) -> Result<Value, Halt>
+pub fn pair_value(
+    alloc: Global,
+    at: Place,
+    op: BinOp,
+    x: Boxed<Value>,
+    y: Boxed<Value>,
+) -> Result<Boxed<Value>, Halt>
     ensures { Tells result value_view (or_wrong at (operators.by_operator op (value_view x) (value_view y))) }
 {
-    let found = operate(alloc, op, &x, &y)?;
-    settled(at, found)
+    let found = operate(alloc, op, x.get(), y.get())?;
+    settled(alloc, at, found)
+}
+
+// The elements of a value that subscripts select.
+fn read_selected(
+    alloc: Global,
+    at: Place,
+    site: u64,
+    value: &Value,
+    subscripts: &[Option<Value>],
+) -> Result<Boxed<Value>, Halt>
+    ensures { Tells result value_view (bind (or_wrong at (subscripting.as_subscripts (map item_view subscripts.now))) (λ subs. reads.read at site (value_view value.now) subs)) }
+{
+    let found = read(alloc, at, site, value, subscripts)?;
+    let kept = Boxed::new(alloc, found)?;
+    Ok(kept)
 }
 
 /// A read of a variable by subscripts; wrong at the place where it has no value.
@@ -104,14 +141,14 @@ pub fn read_value(
     opens: Place,
     name: &[u8],
     subscripts: Vec<Option<Value>>,
-) -> Result<Value, Halt>
+) -> Result<Boxed<Value>, Halt>
     ensures { Tells result value_view (bind (variable (env_view names.now) at name.now) (λ v. bind (or_wrong at (subscripting.as_subscripts (map item_view subscripts.items))) (λ subs. reads.read at (meaning.site_of opens) v subs))) }
 {
     match names.get(name) {
         None => Err(Halt::Wrong(at)),
         Some(v) => {
             let site = site_of(opens);
-            read(alloc, at, site, v, subscripts.as_slice())
+            read_selected(alloc, at, site, v, subscripts.as_slice())
         }
     }
 }
@@ -133,6 +170,30 @@ pub fn end_in(names: &Variables, name: &[u8], number: usize, many: usize) -> Opt
     }
 }
 
+/// Puts a value behind those of a row. Want of memory is the only refusal.
+pub fn add_value(values: &mut Vec<Value>, value: Boxed<Value>) -> Result<(), Memory>
+    ensures { OnOk result (values.new.items ≡ values.old.items ++ value ∷ []) }
+{
+    values.push(value.into_inner())?;
+    Ok(())
+}
+
+/// Puts an argument or a subscript behind others. Want of memory is the only refusal.
+pub fn add_item(items: &mut Vec<Option<Value>>, item: Option<Boxed<Value>>) -> Result<(), Memory>
+    ensures { OnOk result (items.new.items ≡ items.old.items ++ item ∷ []) }
+{
+    match item {
+        None => {
+            items.push(None)?;
+            Ok(())
+        }
+        Some(value) => {
+            items.push(Some(value.into_inner()))?;
+            Ok(())
+        }
+    }
+}
+
 /// How many items there are.
 pub fn number_of(items: &Vec<Option<Value>>) -> usize
     ensures { result ≡ length items.now.items }
@@ -149,10 +210,10 @@ pub fn count_of(args: &[Arg]) -> usize
 }
 
 /// The truth of an operand of an operator that skips, if it has one.
-pub fn truth_in(value: Value) -> Option<bool>
+pub fn truth_in(value: Boxed<Value>) -> Option<bool>
     ensures { result ≡ scalar_truth (value_view value) }
 {
-    eval_bits::scalar_truth(&value)
+    eval_bits::scalar_truth(value.get())
 }
 
 /// A truth that has to be there; wrong at the place where there is none.
@@ -190,11 +251,12 @@ pub fn has_decided(deciding: bool, left: Option<bool>) -> bool
 }
 
 /// A truth as a value.
-pub fn made_truth(alloc: Global, truth: bool) -> Result<Value, Halt>
+pub fn made_truth(alloc: Global, truth: bool) -> Result<Boxed<Value>, Halt>
     ensures { Tells result value_view (Gives (truth_value truth)) }
 {
     let v = make_truth(alloc, truth)?;
-    Ok(v)
+    let kept = Boxed::new(alloc, v)?;
+    Ok(kept)
 }
 
 /// The truth of the right operand of an operator that skips as its result; wrong at its place where one of the two operands has none.
@@ -203,8 +265,8 @@ pub fn right_truth(
     alloc: Global,
     at: Place,
     left: Option<bool>,
-    right: Value,
-) -> Result<Value, Halt>
+    right: Boxed<Value>,
+) -> Result<Boxed<Value>, Halt>
     ensures { Tells result value_view (or_wrong at (meaning.right_decides left (value_view right))) }
 {
     let truth = truth_in(right);

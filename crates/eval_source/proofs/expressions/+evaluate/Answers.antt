@@ -15,13 +15,13 @@ use Rattle.fi_values.specs.Reads.{shape_of}
 use Rattle.fi_values.specs.Subscripts.{extent}
 use Rattle.eval_call.specs.View.{argument_view}
 use Rattle.eval_source.proofs.Lists.{goes, stops, subscript_first, none_passed, argument_goes, argument_first, onward}
-use Rattle.eval_source.proofs.Steps.{stepped, plain_told, skipping_told, skip_decided, skip_right, item_stops, item_passes, item_all}
+use Rattle.eval_source.proofs.Steps.{stepped, operands_told, skipping_told, skip_decided, skip_right, item_stops, item_passes, item_all}
 use Rattle.eval_source.proofs.expressions.+evaluate.Goals as goal
 
 pub behind_left-returns-in-None : goal.behind_left-returns-in-None
 behind_left-returns-in-None g t c =
-    plain_told c.plain.result c.args.at c.args.op _ (value_view c.args.left) (meaning.value (expr_view c.args.right.now) (context_of c.args.scope.now (g.C.Caller.called c.args.caller.now)) (env_view c.args.names.now) c.args.ends)
-    (sym c.decides.ensures ∙ c.in-None.is) c.plain.ensures
+    operands_told c.evaluate_operands.result c.args.at c.args.op _ (value_view c.args.left) (meaning.value (expr_view c.args.right.now) (context_of c.args.scope.now (g.C.Caller.called c.args.caller.now)) (env_view c.args.names.now) c.args.ends)
+    (sym c.decides.ensures ∙ c.in-None.is) c.evaluate_operands.ensures
 
 pub behind_left-returns-in-Some : goal.behind_left-returns-in-Some
 behind_left-returns-in-Some g t c =
@@ -99,12 +99,12 @@ subscript_values-loop-arg-preserved g t c =
     let rest = map arg_view (drop (k + 1) c.args.args.now) in
     let inside = c.end_in-inside.ensures ∙ ap (λ n. v |> (λ u. Some (extent (shape_of u) n c.args.many))) (c.number_of.ensures ∙ c.loop-arg.invariant.1) in
     let left = ap (λ l. meaning.subscript_values (args_view l) cx env c.args.at v k c.args.many) (left_at c.args.args.now k c.arg-item.result c.arg-item.result c.loop-arg-test.true c.arg-item.is) in (
-      goes item_view c.loop-arg.values.items c.push.new.self.items c.in_ok-v.v (item_value o cx env (v |> (λ u. Some (extent (shape_of u) k c.args.many))))
+      goes item_view c.loop-arg.values.items c.add_item.new.items.items c.in_ok-v.v (item_value o cx env (v |> (λ u. Some (extent (shape_of u) k c.args.many))))
           (meaning.subscript_values (args_view (drop k c.args.args.now)) cx env c.args.at v k c.args.many) (meaning.subscript_values (args_of rest) cx env c.args.at v (k + 1) c.args.many)
-          (meaning.subscript_values (args_view c.args.args.now) cx env c.args.at v 0 c.args.many) c.in_ok-push.ensures.items (ap (λ e. item_value o cx env e) (sym inside) ∙ c.in_ok-v.ensures)
+          (meaning.subscript_values (args_view c.args.args.now) cx env c.args.at v 0 c.args.many) c.in_ok-add_item.ensures (ap (λ e. item_value o cx env e) (sym inside) ∙ c.in_ok-v.ensures)
           (left ∙ subscript_first o rest cx env c.args.at v k c.args.many ∙ ap (λ n. item_value o cx env (v |> (λ u. Some (extent (shape_of u) k c.args.many))) >>= (λ y. meaning.subscript_values (args_of rest) cx env c.args.at v n c.args.many >>= (λ ys. Gives (y ∷ ys)))) (let e : suc k ≡ k + 1 = omega arith in e))
           c.loop-arg.invariant.0,
-      ap length c.in_ok-push.ensures.items ∙ (let e : length (c.loop-arg.values.items ++ c.in_ok-v.v ∷ []) ≡ length c.loop-arg.values.items + 1 = grind (arith, common_steps) in e) ∙ ap (λ n. n + 1) c.loop-arg.invariant.1,
+      ap length c.in_ok-add_item.ensures ∙ (let e : length (c.loop-arg.values.items ++ c.in_ok-v.v ∷ []) ≡ length c.loop-arg.values.items + 1 = grind (arith, common_steps) in e) ∙ ap (λ n. n + 1) c.loop-arg.invariant.1,
     )
 
 pub subscript_values-returns-in_err-v : goal.subscript_values-returns-in_err-v

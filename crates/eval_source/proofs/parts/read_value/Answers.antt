@@ -18,8 +18,8 @@ returns-in-None c =
 
 pub returns : goal.returns
 returns c =
-    after_ok c.read.result value_view (or_wrong c.args.at (env_view c.args.names.now c.args.name.now)) (value_view c.in-Some.v.now)
+    after_ok c.read_selected.result value_view (or_wrong c.args.at (env_view c.args.names.now c.args.name.now)) (value_view c.in-Some.v.now)
     (λ v. bind (or_wrong c.args.at (as_subscripts (map item_view c.args.subscripts.items))) (λ subs. reads.read c.args.at (site_of c.args.opens) v subs))
     (has_value c.get.result (env_view c.args.names.now c.args.name.now) c.args.at c.in-Some.v c.get.ensures c.in-Some.is)
-    (subst (λ n. Tells c.read.result value_view (bind (or_wrong c.args.at (as_subscripts (map item_view c.args.subscripts.items))) (λ subs. reads.read c.args.at n (value_view c.in-Some.v.now) subs))) c.site_of-site.ensures
-    (subst (λ xs. Tells c.read.result value_view (bind (or_wrong c.args.at (as_subscripts (map item_view xs))) (λ subs. reads.read c.args.at c.site_of-site.result (value_view c.in-Some.v.now) subs))) c.as_slice.ensures.value c.read.ensures))
+    (subst (λ n. Tells c.read_selected.result value_view (bind (or_wrong c.args.at (as_subscripts (map item_view c.args.subscripts.items))) (λ subs. reads.read c.args.at n (value_view c.in-Some.v.now) subs))) c.site_of-site.ensures
+    (subst (λ xs. Tells c.read_selected.result value_view (bind (or_wrong c.args.at (as_subscripts (map item_view xs))) (λ subs. reads.read c.args.at c.site_of-site.result (value_view c.in-Some.v.now) subs))) c.as_slice.ensures.value c.read_selected.ensures))
