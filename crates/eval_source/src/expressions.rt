@@ -25,7 +25,7 @@ use crate::leaves::{called, end_value, is_word_item, name_value, number_value, t
 use crate::parts::{
     add_item, add_value, bracket_value, count_of, decides, end_in, has_decided, made_truth,
     number_of, pair_value, range_value, read_value, right_truth, sign_value, transposed_value,
-    truth_in, unit_step,
+    truth_in, unit_range,
 };
 use crate::scope::{Scope, is_listed};
 use crate::variables::Variables;
@@ -98,17 +98,36 @@ pub fn evaluate<C: Caller>(
         ExprKind::Paren(part) => evaluate(part.get(), alloc, scope, caller, names, ends),
         ExprKind::Matrix(rows) => matrix(rows.as_slice(), alloc, scope, caller, names, ends, at),
         ExprKind::Binary(op, a, b) => {
-            let x = evaluate(a.get(), alloc, scope, caller, names, ends)?;
-            behind_left(b.get(), alloc, scope, caller, names, ends, at, *op, x)
+            match evaluate(a.get(), alloc, scope, caller, names, ends) {
+                Ok(x) => behind_left(b.get(), alloc, scope, caller, names, ends, at, *op, x),
+                Err(halt) => Err(halt),
+            }
         }
         ExprKind::Range { first, step, last } => {
-            let x = evaluate(first.get(), alloc, scope, caller, names, ends)?;
-            match step {
-                None => to_last(last.get(), alloc, scope, caller, names, ends, at, x),
-                Some(step) => {
-                    let s = evaluate(step.get(), alloc, scope, caller, names, ends)?;
-                    by_step(last.get(), alloc, scope, caller, names, ends, at, x, s)
-                }
+            match evaluate(first.get(), alloc, scope, caller, names, ends) {
+                Err(halt) => Err(halt),
+                Ok(x) => match step {
+                    None => to_last(last.get(), alloc, scope, caller, names, ends, at, x),
+                    Some(step) => {
+                        match evaluate(step.get(), alloc, scope, caller, names, ends) {
+                            Ok(s) => by_step(
+                                last.get(),
+                                alloc,
+                                scope,
+                                caller,
+                                names,
+                                ends,
+                                at,
+                                x,
+                                s,
+                            ),
+                            Err(halt) => {
+                                drop(x);
+                                Err(halt)
+                            }
+                        }
+                    }
+                },
             }
         }
     }
@@ -129,8 +148,10 @@ fn unary<C: Caller>(
 ) -> Result<Boxed<Value>, Halt>
     ensures { Tells result value_view (meaning.value (Unary at sign (expr_view part.now)) (context_of scope.now (C.called caller.now)) (env_view names.now) ends) }
 {
-    let v = evaluate(part, alloc, scope, caller, names, ends)?;
-    sign_value(alloc, at, sign, v)
+    match evaluate(part, alloc, scope, caller, names, ends) {
+        Ok(v) => sign_value(alloc, at, sign, v),
+        Err(halt) => Err(halt),
+    }
 }
 
 // A transpose of an expression.
@@ -148,8 +169,10 @@ fn post<C: Caller>(
 ) -> Result<Boxed<Value>, Halt>
     ensures { Tells result value_view (meaning.value (Post at mark (expr_view part.now)) (context_of scope.now (C.called caller.now)) (env_view names.now) ends) }
 {
-    let v = evaluate(part, alloc, scope, caller, names, ends)?;
-    transposed_value(alloc, at, mark, v)
+    match evaluate(part, alloc, scope, caller, names, ends) {
+        Ok(v) => transposed_value(alloc, at, mark, v),
+        Err(halt) => Err(halt),
+    }
 }
 
 // The last bound of a range without a step, behind the first.
@@ -167,9 +190,13 @@ fn to_last<C: Caller>(
 ) -> Result<Boxed<Value>, Halt>
     ensures { Tells result value_view (bind (meaning.value (expr_view last.now) (context_of scope.now (C.called caller.now)) (env_view names.now) ends) (λ y. or_wrong at (ranges.ranged (value_view first) (whole_value 1) y))) }
 {
-    let y = evaluate(last, alloc, scope, caller, names, ends)?;
-    let step = unit_step(alloc)?;
-    range_value(alloc, at, first, step, y)
+    match evaluate(last, alloc, scope, caller, names, ends) {
+        Ok(y) => unit_range(alloc, at, first, y),
+        Err(halt) => {
+            drop(first);
+            Err(halt)
+        }
+    }
 }
 
 // The last bound of a range, behind the first and the step.
@@ -188,8 +215,14 @@ fn by_step<C: Caller>(
 ) -> Result<Boxed<Value>, Halt>
     ensures { Tells result value_view (bind (meaning.value (expr_view last.now) (context_of scope.now (C.called caller.now)) (env_view names.now) ends) (λ y. or_wrong at (ranges.ranged (value_view first) (value_view step) y))) }
 {
-    let y = evaluate(last, alloc, scope, caller, names, ends)?;
-    range_value(alloc, at, first, step, y)
+    match evaluate(last, alloc, scope, caller, names, ends) {
+        Ok(y) => range_value(alloc, at, first, step, y),
+        Err(halt) => {
+            drop(first);
+            drop(step);
+            Err(halt)
+        }
+    }
 }
 
 // The right operand of an operator, behind the left one, which may decide alone.
@@ -256,8 +289,10 @@ fn deciding_right<C: Caller>(
 ) -> Result<Boxed<Value>, Halt>
     ensures { Tells result value_view (bind (meaning.value (expr_view right.now) (context_of scope.now (C.called caller.now)) (env_view names.now) ends) (λ y. or_wrong at (meaning.right_decides left y))) }
 {
-    let y = evaluate(right, alloc, scope, caller, names, ends)?;
-    right_truth(alloc, at, left, y)
+    match evaluate(right, alloc, scope, caller, names, ends) {
+        Ok(y) => right_truth(alloc, at, left, y),
+        Err(halt) => Err(halt),
+    }
 }
 
 // The right operand of an operator that evaluates both, behind the left one.
@@ -276,8 +311,13 @@ fn evaluate_operands<C: Caller>(
 ) -> Result<Boxed<Value>, Halt>
     ensures { Tells result value_view (bind (meaning.value (expr_view right.now) (context_of scope.now (C.called caller.now)) (env_view names.now) ends) (λ y. or_wrong at (by_operator op (value_view left) y))) }
 {
-    let y = evaluate(right, alloc, scope, caller, names, ends)?;
-    pair_value(alloc, at, op, left, y)
+    match evaluate(right, alloc, scope, caller, names, ends) {
+        Ok(y) => pair_value(alloc, at, op, left, y),
+        Err(halt) => {
+            drop(left);
+            Err(halt)
+        }
+    }
 }
 
 // A bracket.
@@ -294,8 +334,10 @@ fn matrix<C: Caller>(
 ) -> Result<Boxed<Value>, Halt>
     ensures { Tells result value_view (meaning.value (Matrix at (view.rows_view rows.now)) (context_of scope.now (C.called caller.now)) (env_view names.now) ends) }
 {
-    let values = rows_values(rows, alloc, scope, caller, names, ends)?;
-    bracket_value(alloc, at, values)
+    match rows_values(rows, alloc, scope, caller, names, ends) {
+        Ok(values) => bracket_value(alloc, at, values),
+        Err(halt) => Err(halt),
+    }
 }
 
 // The rows of a bracket, from the top.
@@ -396,8 +438,10 @@ fn read_at<C: Caller>(
     ensures { Tells result value_view (bind (meaning.subscript_values (args_view args.now) (context_of scope.now (C.called caller.now)) (env_view names.now) at (env_view names.now name.now) 0 (meaning.args_count (args_view args.now))) (λ vs. bind (variable (env_view names.now) at name.now) (λ v. bind (or_wrong at (as_subscripts vs)) (λ subs. reads.read at (meaning.site_of opens) v subs)))) }
 {
     let many = count_of(args);
-    let subscripts = subscript_values(args, alloc, scope, caller, names, at, name, many)?;
-    read_value(alloc, names, at, opens, name, subscripts)
+    match subscript_values(args, alloc, scope, caller, names, at, name, many) {
+        Ok(subscripts) => read_value(alloc, names, at, opens, name, subscripts),
+        Err(halt) => Err(halt),
+    }
 }
 
 // A call.
@@ -415,8 +459,10 @@ fn call_at<C: Caller>(
 ) -> Result<Boxed<Value>, Halt>
     ensures { Tells result value_view (bind (meaning.arguments (args_view args.now) (context_of scope.now (C.called caller.now)) (env_view names.now) at ends) (meaning.called (context_of scope.now (C.called caller.now)) at name.now)) }
 {
-    let passed = arguments(args, alloc, scope, caller, names, ends, at)?;
-    called(alloc, scope, caller, at, name, passed)
+    match arguments(args, alloc, scope, caller, names, ends, at) {
+        Ok(passed) => called(alloc, scope, caller, at, name, passed),
+        Err(halt) => Err(halt),
+    }
 }
 
 /// The arguments of a call, from left to right. Wrong at its place where one is `:`.

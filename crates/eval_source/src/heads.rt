@@ -1,11 +1,12 @@
 //! Conditions, and the ranges of loops.
 
-ghost use Rattle.std.specs.Prelude.{◌≡◌, None, ◌+ℤ◌, ◌*ℤ◌, pos, ◌<◌, option_map};
+ghost use Rattle.std.specs.Prelude.{◌≡◌, None, ◌+ℤ◌, ◌*ℤ◌, pos, ◌<◌, option_map, OnOk};
 ghost use Rattle.mat_ast.specs.View.{expr_view};
 ghost use Rattle.fi_eval.specs.Meaning as tree;
 ghost use Rattle.fi_eval.specs.Outcome.{Gives, bind, or_wrong};
 ghost use Rattle.fi_values.specs.Logicals as logicals;
 ghost use Rattle.fi_values.specs.Ranges.{items_of};
+ghost use Rattle.fi_meaning.specs.Environment.{assigned};
 ghost use Rattle.fi_meaning.specs.Expressions as meaning;
 ghost use Rattle.fi_meaning.specs.Statements as statements;
 ghost use Rattle.eval_value.specs.Tells.{Tells};
@@ -23,6 +24,7 @@ use eval_array::{Items, items_between};
 use eval_value::{Halt, Value, make_number};
 use fic_base::Place;
 use mat_ast::{Expr, ExprKind};
+use num_type::Memory;
 use sqlite_items::Boxed;
 use std::alloc::Global;
 
@@ -95,13 +97,20 @@ fn few(to: Place, items: Items) -> Result<Items, Halt>
     }
 }
 
-/// An item as a value of the loop variable.
-pub fn item_at(alloc: Global, items: &Items, k: u64) -> Result<Value, Halt>
+/// Gives the loop variable an item. Want of memory is the only refusal.
+pub fn set_item(
+    alloc: Global,
+    items: &Items,
+    k: u64,
+    name: &[u8],
+    names: &mut Variables,
+) -> Result<(), Memory>
     requires { k < items.now.count }
-    ensures { Tells result value_view (Gives (statements.item_value (items.now.first +ℤ items.now.step *ℤ pos k))) }
+    ensures { OnOk result (env_view names.new ≡ assigned name.now (statements.item_value (items.now.first +ℤ items.now.step *ℤ pos k)) (env_view names.old)) }
 {
     let v = make_number(alloc, items.item(k))?;
-    Ok(v)
+    names.set(alloc, name, v)?;
+    Ok(())
 }
 
 // The step of a range, 1 where none is written.

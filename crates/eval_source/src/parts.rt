@@ -94,6 +94,19 @@ pub fn unit_step(alloc: Global) -> Result<Boxed<Value>, Halt>
     Ok(kept)
 }
 
+/// A range without a step, which is 1 then.
+pub fn unit_range(
+    alloc: Global,
+    at: Place,
+    first: Boxed<Value>,
+    last: Boxed<Value>,
+) -> Result<Boxed<Value>, Halt>
+    ensures { Tells result value_view (or_wrong at (ranges.ranged (value_view first) (whole_value 1) (value_view last))) }
+{
+    let step = unit_step(alloc)?;
+    range_value(alloc, at, first, step, last)
+}
+
 /// A bracket of rows of values.
 #[tactic(auto, using(crate::proofs::Follow::known))]
 pub fn bracket_value(alloc: Global, at: Place, rows: Vec<Vec<Value>>) -> Result<Boxed<Value>, Halt>

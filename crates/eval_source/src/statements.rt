@@ -15,7 +15,7 @@ ghost use Rattle.eval_source.specs.View.{context_of, env_view};
 use crate::assignments::{assign, assign_outputs, store_into};
 use crate::caller::Caller;
 use crate::flow::{Flow, ends_loop, jump, leaves};
-use crate::heads::{holds, item_at, loop_items};
+use crate::heads::{holds, loop_items, set_item};
 use crate::scope::{Scope, looped};
 use crate::variables::Variables;
 use eval_array::Items;
@@ -239,8 +239,7 @@ fn take_turn<C: Caller>(
     requires { k < items.now.count }
     ensures { Tells result (λ f. flow_view f (env_view names.new)) (for_turn name.now (block_view body.now) (context_of scope.now (C.called caller.now)) turns (items.now.first +ℤ items.now.step *ℤ pos k) (env_view names.old)) }
 {
-    let v = item_at(alloc, items, k)?;
-    names.set(alloc, name, v)?;
+    set_item(alloc, items, k, name, names)?;
     let inner = looped(scope);
     run_block(body, alloc, &inner, caller, turns, names)
 }

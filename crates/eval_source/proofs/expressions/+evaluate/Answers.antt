@@ -28,13 +28,6 @@ behind_left-returns-in-Some g t c =
     skipping_told c.skipping.result c.args.at c.args.op _ c.in-Some.truth (value_view c.args.left) (meaning.value (expr_view c.args.right.now) (context_of c.args.scope.now (g.C.Caller.called c.args.caller.now)) (env_view c.args.names.now) c.args.ends)
     (sym c.decides.ensures ∙ c.in-Some.is) c.skipping.ensures
 
-pub evaluate-returns-in_ok-s-in-Some : goal.evaluate-returns-in_ok-s-in-Some
-evaluate-returns-in_ok-s-in-Some g t c =
-    let is = c.in-Range.is ∙ (λ i. kind.Range (sym c.get-in-Range.ensures i) c.in-Range.step (sym c.get-in-Some-2.ensures i)) in
-    let some = c.in-Some.is ∙ ap (λ m. Some m) (sym c.get-in-Some.ensures) in
-    stepped c.args.e.now c.get-in-Range.result.now c.get-in-Some.result.now c.get-in-Some-2.result.now c.in-Range.step (context_of c.args.scope.now (g.C.Caller.called c.args.caller.now)) (env_view c.args.names.now) c.args.ends
-    (value_view c.in_ok-x-in-Range.x) (value_view c.in_ok-s-in-Some.s) c.by_step.result is some c.in_ok-x-in-Range.ensures c.in_ok-s-in-Some.ensures c.by_step.ensures
-
 pub item-returns-in_err-v-in-Item : goal.item-returns-in_err-v-in-Item
 item-returns-in_err-v-in-Item g t c =
     let p = err_from_is_err_and c.from_residual.result c.from_residual.ensures.1 in
