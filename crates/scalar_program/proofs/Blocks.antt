@@ -12,7 +12,7 @@ use Rattle.fi_eval.specs.Meaning.{Env, Context, look_up, is_variable, targets_of
 use Rattle.c_tree.specs.declared.tree.CWord.{CWord}
 use Rattle.c_tree.specs.Tree.{Sta}
 use Rattle.c_tree.specs.Meaning.{State}
-use Rattle.scalar_program.specs.Lowered.{with_type}
+use Rattle.scalar_program.specs.NameMaps.{with_type}
 use Rattle.scalar_program.specs.Lowered.{Held, Names, Emitted, IsStaLowered, IsBlockLowered, Behind}
 use Rattle.scalar_program.proofs.Says.{HeldStands, or_left, or_right}
 use Rattle.scalar_program.proofs.Runs.{word_type, RunsTo, runs_nothing, runs_both, IsBelow, Keeps, keeps_both, Adds, adds_nothing, adds_both, some_is, rest_of}

@@ -22,7 +22,8 @@ use Rattle.c_tree.specs.WellFormed.{Scope, IsSlot, AreNamedApart, element_type, 
 use Rattle.c_tree.specs.Depth.{block_depth}
 use Rattle.fi_rules.specs.Types.{FiTy}
 use Rattle.lower_scalar.specs.Part.{word_for}
-use Rattle.scalar_program.specs.Lowered.{Input, Operand, Held, Names, Emitted, Behind, and_then, with_type, input_held, output_of, IsBlockLowered, outputs_lowered, stores_from, inputs_from, real_slot, real_slots, read}
+use Rattle.scalar_program.specs.Lowered.{Input, Operand, Held, Names, Emitted, Behind, and_then, input_held, output_of, IsBlockLowered, outputs_lowered, stores_from, inputs_from, real_slot, real_slots, read}
+use Rattle.scalar_program.specs.NameMaps.{with_type}
 use Rattle.scalar_program.proofs.Runs.{rest_of, some_of, some_is}
 use Rattle.scalar_program.proofs.Blocks.{block_adds}
 use Rattle.scalar_program.proofs.Starts.{nums_of, container_sign, IsFiOutput, output_is}

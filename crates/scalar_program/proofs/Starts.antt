@@ -24,8 +24,9 @@ use Rattle.c_tree.specs.Run.{filled}
 use Rattle.fi_math.specs.declared.fimath.Fimath.{Fimath}
 use Rattle.fic_base.specs.declared.place.Place.{Place}
 use Rattle.fi_rules.specs.Types.{Ty, FiTy, NumberTy, TextTy, MathTy, TypeTy, OtherTy}
-use Rattle.scalar_program.specs.Lowered.{Spot, Input, Variable, Literal, Operand, Held, Names, and_then, with_type, input_held, fi_operand, output_of, inputs_from, outputs_lowered, stores_from, read, real_slots}
-use Rattle.scalar_program.specs.Correspondence.{arrays_of, AreInputs, AreFilled}
+use Rattle.scalar_program.specs.Lowered.{Spot, Input, Variable, Literal, Operand, Held, Names, and_then, input_held, fi_operand, output_of, inputs_from, outputs_lowered, stores_from, read, real_slots}
+use Rattle.scalar_program.specs.NameMaps.{with_type}
+use Rattle.scalar_program.specs.Correspondence.{value_arrays, AreDeclared, AreFilled}
 use Rattle.scalar_program.proofs.Ranges.{InRange, in_range_cases, pow_mono, no_false, signed_between, widen, between_signed}
 use Rattle.scalar_program.proofs.Says.{At, word_z, read_says, mod_small}
 use Rattle.scalar_program.proofs.Says.{Stands, HeldStands}
@@ -103,7 +104,7 @@ covers_tail : (cx : Context) (name : List ℕ) (names : List (List ℕ)) → Cov
 covers_tail cx name names covers n q = covers n (any_behind (λ other. bytes_eq other n) (name ∷ []) names q)
 
 -- the inputs of a call stand in the arrays of the inputs
-pub inputs_see : (is : List Ident) (ts : List NumericType) (vals : List Val) (k : ℕ) (pre : List Cells) (names : Names) (cx : Context) (env : Env) (st : State) → length pre ≡ k → length is ≡ length ts → AreInputs (real_slots is ts) vals → All IsWithin ts → st.inputs ≡ pre ++ filled (flat_map (slot_arrays input_fronts) (real_slots is ts)) (flat_map arrays_of vals) → Covers cx (names_of is) → Sees names cx env st 0 → (after : Env) × (bound is vals env ≡ Some after) × Sees (inputs_from k is ts names) cx after st 0
+pub inputs_see : (is : List Ident) (ts : List NumericType) (vals : List Val) (k : ℕ) (pre : List Cells) (names : Names) (cx : Context) (env : Env) (st : State) → length pre ≡ k → length is ≡ length ts → AreDeclared (real_slots is ts) vals → All IsWithin ts → st.inputs ≡ pre ++ filled (flat_map (slot_arrays input_fronts) (real_slots is ts)) (flat_map value_arrays vals) → Covers cx (names_of is) → Sees names cx env st 0 → (after : Env) × (bound is vals env ≡ Some after) × Sees (inputs_from k is ts names) cx after st 0
 inputs_see [] [] [] k pre names cx env st at same h within e covers sees = (env, refl, sees)
 inputs_see [] [] (v ∷ vals) k pre names cx env st at same h within e covers sees = absurd h
 inputs_see [] (t ∷ ts) vals k pre names cx env st at same h within e covers sees = absurd (omega (arith, same))
@@ -115,8 +116,8 @@ inputs_see (i ∷ is) (t ∷ ts) (v ∷ vals) k pre names cx env st at same h wi
     let v_is : v ≡ fi_of t None z = h.0.1 ∙ ap (Fi t None scalar) one.1 in
     let range : IsInRange t z = All-head (IsInRange t) z [] (All-same (IsInRange t) (z ∷ []) h.0.0 (sym one.1) h.0.3) in
     let c : Cells = record { container = container_for t.signed t.word; items = z ∷ [] } in
-    let rest : List Cells = filled (flat_map (slot_arrays input_fronts) (real_slots is ts)) (flat_map arrays_of vals) in
-    let here : st.inputs ≡ pre ++ (c ∷ rest) = e ∙ ap (λ u. pre ++ filled (flat_map (slot_arrays input_fronts) (real_slots (i ∷ is) (t ∷ ts))) (flat_map arrays_of (u ∷ vals))) v_is in
+    let rest : List Cells = filled (flat_map (slot_arrays input_fronts) (real_slots is ts)) (flat_map value_arrays vals) in
+    let here : st.inputs ≡ pre ++ (c ∷ rest) = e ∙ ap (λ u. pre ++ filled (flat_map (slot_arrays input_fronts) (real_slots (i ∷ is) (t ∷ ts))) (flat_map value_arrays (u ∷ vals))) v_is in
     let next : st.inputs ≡ (pre ++ (c ∷ [])) ++ rest = here ∙ sym (append_assoc pre (c ∷ []) rest) in
     let k_next : length (pre ++ (c ∷ [])) ≡ suc k = omega (arith, at, length-append pre (c ∷ [])) in
     let inner = inputs_see is ts vals (suc k) (pre ++ (c ∷ [])) (with_type names i.text (input_held k t)) cx ((i.text, fi_of t None z) ∷ env) st k_next (omega (arith, same)) h.1

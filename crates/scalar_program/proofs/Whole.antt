@@ -26,7 +26,7 @@ use Rattle.c_tree.specs.Run.{Ended, run, start, result_of, zero_word}
 use Rattle.c_tree.specs.Tokens.{body_token, closing_token}
 use Rattle.scalar_program.specs.Lowered.{Operand, Names, Emitted, IsBlockLowered, IsFunctionLowered, outputs_lowered, stores_from, inputs_from, no_names, real_slots, nothing_emitted, program_of}
 use Rattle.scalar_program.specs.Correspondence as match
-use Rattle.scalar_program.specs.Correspondence.{AreInputs, AreFilled, Corresponds, Behaves, IsProgramOf, form_of, value_form}
+use Rattle.scalar_program.specs.Correspondence.{AreDeclared, AreFilled, Corresponds, Behaves, IsProgramOf, form_of, value_form}
 use Rattle.scalar_program.proofs.Runs.{word_type, before, RunsTo, some_is}
 use Rattle.scalar_program.proofs.Operators.{fi_of}
 use Rattle.scalar_program.proofs.Expressions.{Sees}
@@ -111,14 +111,14 @@ no_names_seen : (cx : Context) (env : Env) (st : State) → Sees no_names cx env
 no_names_seen cx env st name o h = absurd (cc)
 
 -- what the outputs hold
-arrays_held : (outs : List Operand) (zs : List ℤ) (vs : List Val) → AreFis outs zs vs → flat_map match.arrays_of vs ≡ map (λ z. z ∷ []) zs
+arrays_held : (outs : List Operand) (zs : List ℤ) (vs : List Val) → AreFis outs zs vs → flat_map match.value_arrays vs ≡ map (λ z. z ∷ []) zs
 arrays_held [] [] [] h = refl
 arrays_held [] [] (v ∷ vs) h = absurd h
 arrays_held [] (z ∷ zs) vs h = absurd h
 arrays_held (o ∷ os) [] vs h = absurd h
 arrays_held (o ∷ os) (z ∷ zs) [] h = absurd h
 arrays_held (o ∷ os) (z ∷ zs) (v ∷ vs) h =
-    ap (λ w. match.arrays_of w ++ flat_map match.arrays_of vs) h.0.1 ∙ ap (λ l. (z ∷ []) ∷ l) (arrays_held os zs vs h.1)
+    ap (λ w. match.value_arrays w ++ flat_map match.value_arrays vs) h.0.1 ∙ ap (λ l. (z ∷ []) ∷ l) (arrays_held os zs vs h.1)
 
 forms_held : (is : List Ident) (outs : List Operand) (zs : List ℤ) (vs : List Val) → length outs ≡ length is → AreFis outs zs vs → map (λ s. Some (form_of s)) (real_slots is (nums_of outs)) ≡ map value_form vs
 forms_held [] [] [] [] same h = refl

@@ -1,8 +1,8 @@
 -- What a program does, beside what its source does.
-use Rattle.std.specs.Prelude.{◌≡◌, ℕ, ◌≤◌, ◌*◌, true, false, ℤ, List, [], ◌∷◌, map, flat_map, length, Option, Some, None, All}
+use Rattle.std.specs.Prelude.{◌≡◌, ℕ, ◌≤◌, ◌<◌, ◌*◌, true, false, ℤ, List, [], ◌∷◌, map, flat_map, length, Option, Some, None, All}
 use Rattle.fic_base.specs.declared.place.Place.{Place}
 use Rattle.mat_ast.specs.Tree.{Fun}
-use Rattle.num_type.specs.Types.{IsInRange}
+use Rattle.num_type.specs.Types.{NumericType, IsInRange}
 use Rattle.fi_eval.specs.Outcome as got
 use Rattle.fi_eval.specs.Outcome.{Got}
 use Rattle.fi_rules.specs.Value.{Val, Fi, ComplexFi, Shape}
@@ -17,14 +17,14 @@ use Rattle.c_tree.specs.Depth.{depth, depth_limit}
 use Rattle.c_tree.specs.Run.{Result, Ended, Over, run}
 
 -- how a value stands in arrays of C: by columns, the real and the imaginary parts apart, truth values as 0 and 1
-abbrev pub arrays_of : Val → List (List ℤ)
-arrays_of (Fi t m s xs) = xs ∷ []
-arrays_of (ComplexFi t m s xs ys) = xs ∷ ys ∷ []
-arrays_of (value.Logical s bs) = map number_of bs ∷ []
-arrays_of _ = []
+abbrev pub value_arrays : Val → List (List ℤ)
+value_arrays (Fi t m s xs) = xs ∷ []
+value_arrays (ComplexFi t m s xs ys) = xs ∷ ys ∷ []
+value_arrays (value.Logical s bs) = map number_of bs ∷ []
+value_arrays _ = []
 
 abbrev pub all_arrays : List Val → List (List ℤ)
-all_arrays = flat_map arrays_of
+all_arrays = flat_map value_arrays
 
 -- what the elements of a value are, and its shape
 pub record Form : Type 0 where
@@ -35,17 +35,21 @@ pub record Form : Type 0 where
 abbrev pub form_of : Slot → Form
 form_of s = record { kind = s.kind; rows = s.rows; columns = s.columns }
 
+-- one real element of a type
+abbrev pub real_form : NumericType → Form
+real_form t = record { kind = Fixed t false; rows = 1; columns = 1 }
+
 abbrev pub value_form : Val → Option Form
 value_form (Fi t m s xs) = Some (record { kind = Fixed t false; rows = s.rows; columns = s.columns })
 value_form (ComplexFi t m s xs ys) = Some (record { kind = Fixed t true; rows = s.rows; columns = s.columns })
 value_form (value.Logical s bs) = Some (record { kind = Logical; rows = s.rows; columns = s.columns })
 value_form _ = None
 
--- an outcome of evaluation and a result of C: the same shapes and stored integers, the same fault, or both past the bound
+-- an outcome of evaluation and a result of C: 0 and the same shapes and stored integers, the same fault, which isn't 0, or both past the bound
 abbrev pub Corresponds : Signature → Got Place (List Val) → Result → Type 0
 Corresponds i (got.Gives vs) (Ended status outs) =
     (status ≡ 0) × (outs ≡ all_arrays vs) × (map (λ s. Some (form_of s)) i.outputs ≡ map value_form vs)
-Corresponds i (got.Fault site) (Ended status outs) = status ≡ site
+Corresponds i (got.Fault site) (Ended status outs) = (status ≡ site) × (0 < site)
 Corresponds i got.Over Over = Unit {0}
 Corresponds i _ _ = ⊥
 
@@ -58,10 +62,11 @@ IsInput (Fixed t true) rows columns v =
     × (length xs ≡ rows * columns) × All (IsInRange t) xs × (length ys ≡ rows * columns) × All (IsInRange t) ys
 IsInput Logical rows columns v = ⊥
 
-abbrev pub AreInputs : List Slot → List Val → Type 0
-AreInputs [] [] = Unit {0}
-AreInputs (s ∷ ss) (v ∷ vs) = IsInput s.kind s.rows s.columns v × AreInputs ss vs
-AreInputs _ _ = ⊥
+-- the declared inputs, one by one
+abbrev pub AreDeclared : List Slot → List Val → Type 0
+AreDeclared [] [] = Unit {0}
+AreDeclared (s ∷ ss) (v ∷ vs) = IsInput s.kind s.rows s.columns v × AreDeclared ss vs
+AreDeclared _ _ = ⊥
 
 -- contents of arrays of the declared lengths
 abbrev pub AreFilled : List Array → List (List ℤ) → Type 0
@@ -73,7 +78,7 @@ AreFilled _ _ = ⊥
 -- nothing undefined and what evaluation of the source does
 abbrev pub Behaves : List Fun → List ℕ → Program → Type 0
 Behaves fs entry p =
-    (vs : List Val) (outs : List (List ℤ)) (n : ℕ) → AreInputs p.interface.inputs vs → AreFilled (output_arrays p.interface) outs
+    (vs : List Val) (outs : List (List ℤ)) (n : ℕ) → AreDeclared p.interface.inputs vs → AreFilled (output_arrays p.interface) outs
     → Corresponds p.interface (evaluated fs entry vs n) (run p (all_arrays vs) outs n)
 
 -- a program of a file, from an entry

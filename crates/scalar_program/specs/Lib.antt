@@ -1,3 +1,4 @@
+pub mod NameMaps
 pub mod Lowered
 pub mod Correspondence
 pub mod Right

@@ -1,5 +1,5 @@
--- The program of a function of scalar assignments.
-use Rattle.std.specs.Prelude.{◌≡◌, ◌⊎◌, ℕ, suc, ◌^◌, ◌%◌, Bool, true, false, ℤ, pos, negsuc, nat_lt, unsigned_abs, if◌then◌else◌, List, [], ◌∷◌, ◌++◌, length, map, Option, Some, None, bytes_eq}
+-- Part of the proof: the program that the code writes for a function of scalar assignments. What is claimed of a program doesn't rest on it.
+use Rattle.std.specs.Prelude.{◌≡◌, ◌⊎◌, ℕ, suc, ◌^◌, ◌%◌, Bool, true, false, ℤ, pos, negsuc, nat_lt, unsigned_abs, if◌then◌else◌, List, [], ◌∷◌, ◌++◌, length, map, Option, Some, None}
 use Rattle.mat_ast.specs.declared.tree.Ident.{Ident}
 use Rattle.mat_ast.specs.declared.tree.UnOp.{UnOp}
 use Rattle.mat_ast.specs.declared.tree.UnOp.TheVariants as un
@@ -24,14 +24,11 @@ use Rattle.c_tree.specs.declared.tree.CArray.TheVariants as array
 use Rattle.c_tree.specs.declared.tree.CWord.{CWord}
 use Rattle.c_tree.specs.Tree.{Exp, Signed, Unsigned, Neg, Var, Element, Sta, Set, Store, Return, Fixed, Slot, Program}
 use Rattle.c_tree.specs.View.{block_of}
+use Rattle.scalar_program.specs.NameMaps.{with_type}
 use Rattle.lower_scalar.specs.Part.{Part, Quantises, word_for}
 use Rattle.lower_scalar.specs.Part as lower
 use Rattle.lower_scalar.specs.Shapes.{below_minus}
 use Rattle.lower_scalar.specs.Operators.{Adds, Subtracts, Multiplies, Negates, TakesSign}
-
--- a map of names with one more
-abbrev pub with_type : {A : Type 0} → (List ℕ → Option A) → List ℕ → A → List ℕ → Option A
-with_type names name x other = if bytes_eq name other then Some x else names other
 
 -- where a value stands: in an input array, in a variable, or in the text itself, as a stored integer of this signedness
 pub data Spot : Type 0 where

@@ -1,4 +1,4 @@
--- What is asked of the program of a function.
+-- Part of the proof: what is asked of the program of a function, before its file is known. What is claimed of a program doesn't rest on it.
 use Rattle.std.specs.Prelude.{◌≡◌, ◌≢◌, ℕ, List, [], length, Some, All, AllPairs}
 use Rattle.fic_base.specs.Names.{IsName}
 use Rattle.num_type.specs.Types.{NumericType}

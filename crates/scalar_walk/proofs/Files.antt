@@ -47,10 +47,13 @@ file_headers s view shown fs entry ts f h t =
     let next : List (List ℕ) → Told (List NumericType) = λ seen. function_walked (scope_of shown fs f) f ts in
     stop_types s (walked shown fs entry ts) (subst (StopTells s) (sym (entry_at shown fs entry ts f h)) (part_stops s (headers_checked fs []) next (tells_stop s view (headers_checked fs []) t)))
 
-pub file_function : (r : Result CTree (Stop Refusal)) (shown : Place → List ℕ) (fs : List Fun) (entry : List ℕ) (ts : List NumericType) (f : Fun) (seen : List (List ℕ)) (sc : Scope) → function_named fs entry ≡ Some f → headers_checked fs [] ≡ Passes seen → sc ≡ scope_of shown fs f → TellsTypes r (function_walked sc f ts) → TellsTypes r (walked shown fs entry ts)
-file_function r shown fs entry ts f seen sc h p e t =
+pub file_walked : (shown : Place → List ℕ) (fs : List Fun) (entry : List ℕ) (ts : List NumericType) (f : Fun) (seen : List (List ℕ)) (sc : Scope) → function_named fs entry ≡ Some f → headers_checked fs [] ≡ Passes seen → sc ≡ scope_of shown fs f → function_walked sc f ts ≡ walked shown fs entry ts
+file_walked shown fs entry ts f seen sc h p e =
     let next : List (List ℕ) → Told (List NumericType) = λ seen. function_walked (scope_of shown fs f) f ts in
-    subst (TellsTypes r) (ap (λ s. function_walked s f ts) e ∙ sym (entry_at shown fs entry ts f h ∙ passed (headers_checked fs []) seen next p)) t
+    ap (λ s. function_walked s f ts) e ∙ sym (entry_at shown fs entry ts f h ∙ passed (headers_checked fs []) seen next p)
+
+pub file_function : (r : Result CTree (Stop Refusal)) (shown : Place → List ℕ) (fs : List Fun) (entry : List ℕ) (ts : List NumericType) (f : Fun) (seen : List (List ℕ)) (sc : Scope) → function_named fs entry ≡ Some f → headers_checked fs [] ≡ Passes seen → sc ≡ scope_of shown fs f → TellsTypes r (function_walked sc f ts) → TellsTypes r (walked shown fs entry ts)
+file_function r shown fs entry ts f seen sc h p e t = subst (TellsTypes r) (file_walked shown fs entry ts f seen sc h p e) t
 
 -- ---- what headers give
 

@@ -13,7 +13,8 @@ use Rattle.mat_ast.specs.declared.tree.Ident.{Ident}
 use Rattle.mat_ast.specs.Tree.{Fun}
 use Rattle.c_tree.specs.declared.tree.CTree.{CTree}
 use Rattle.walk_scope.specs.Told.{Told, Passes, Refuses, bind, choose}
-use Rattle.scalar_program.specs.Lowered.{Names, with_type, input_held, inputs_from, no_names}
+use Rattle.scalar_program.specs.Lowered.{Names, input_held, inputs_from, no_names}
+use Rattle.scalar_program.specs.NameMaps.{with_type}
 use Rattle.fi_rules.specs.Texts.{counts_text}
 use Rattle.walk_scope.specs.Scope.{Scope}
 use Rattle.scalar_walk.specs.Walk.{Walked, inputs_typed, no_types, block_walked, outputs_typed, function_walked}

@@ -4,6 +4,7 @@ pub mod Views
 pub mod Steps
 pub mod Walks
 pub mod Outputs
+pub mod OutputTypes
 pub mod Passed
 pub mod Functions
 pub mod Files

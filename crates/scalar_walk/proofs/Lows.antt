@@ -16,7 +16,8 @@ use Rattle.mat_ast.specs.View.{stmt_view, block_view}
 use Rattle.mat_ast.specs.Tree as ast
 use Rattle.c_tree.specs.Tree.{Program}
 use Rattle.lower_scalar.specs.Part.{reach}
-use Rattle.scalar_program.specs.Lowered.{Operand, Held, Emitted, Names, Low, Passed, Behind, IsLowered, AreLowered, IsRead, IsCalled, IsPaired, IsSigned, IsStaLowered, IsBlockLowered, IsFunctionLowered, outputs_lowered, input_held, inputs_from, no_names, nothing_emitted, nothing_passed, program_of, read, with_type}
+use Rattle.scalar_program.specs.Lowered.{Operand, Held, Emitted, Names, Low, Passed, Behind, IsLowered, AreLowered, IsRead, IsCalled, IsPaired, IsSigned, IsStaLowered, IsBlockLowered, IsFunctionLowered, outputs_lowered, input_held, inputs_from, no_names, nothing_emitted, nothing_passed, program_of, read}
+use Rattle.scalar_program.specs.NameMaps.{with_type}
 use Rattle.scalar_walk.specs.declared.operand.Held as code
 use Rattle.scalar_walk.specs.declared.emitted.Emitted as code_emitted
 use Rattle.scalar_walk.specs.View.{held_view, emitted_view, low_view, AreBelow}

@@ -8,7 +8,8 @@ use Rattle.mat_ast.specs.declared.tree.Ident.{Ident}
 use Rattle.num_type.specs.View.{type_of}
 use Rattle.num_type.specs.Types.{NumericType}
 use Rattle.scalar_walk.specs.declared.operand.Operand as code_operand
-use Rattle.scalar_program.specs.Lowered.{Held, Names, with_type}
+use Rattle.scalar_program.specs.Lowered.{Held, Names}
+use Rattle.scalar_program.specs.NameMaps.{with_type}
 use Rattle.walk_scope.specs.Told.{Told, Passes, Refuses, bind}
 use Rattle.walk_scope.specs.View.{Tells}
 use Rattle.walk_scope.proofs.Tell.{part_tells}

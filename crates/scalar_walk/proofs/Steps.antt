@@ -13,7 +13,8 @@ use Rattle.c_tree.specs.declared.tree.CArray.TheVariants as array
 use Rattle.c_tree.specs.View.{slot_view, stmt_view}
 use Rattle.walk_scope.proofs.Lefts.{left_none}
 use Rattle.scalar_walk.specs.declared.operand.Operand as code
-use Rattle.scalar_program.specs.Lowered.{Operand, Names, and_then, with_type, input_held, output_of, inputs_from, outputs_lowered, real_slot, real_slots, stores_from, read}
+use Rattle.scalar_program.specs.Lowered.{Operand, Names, and_then, input_held, output_of, inputs_from, outputs_lowered, real_slot, real_slots, stores_from, read}
+use Rattle.scalar_program.specs.NameMaps.{with_type}
 use Rattle.scalar_walk.specs.View.{operand_view, spot_view}
 
 pub inputs_step : (k : ℕ) (is : List Ident) (ts : List NumType) (names later : Names) (i : Ident) (t : NumType) (bytes : List ℕ) → drop k is ≡ i ∷ drop (k + 1) is → drop k ts ≡ t ∷ drop (k + 1) ts → bytes ≡ i.text → later ≡ with_type names bytes (input_held k (type_of t)) → inputs_from k (drop k is) (map type_of (drop k ts)) names ≡ inputs_from (k + 1) (drop (k + 1) is) (map type_of (drop (k + 1) ts)) later

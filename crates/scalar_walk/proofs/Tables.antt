@@ -5,7 +5,7 @@ use Rattle.std.specs.Prelude.{bytes_eq, option_map}
 use Rattle.std.specs.Global.{Vec}
 use Rattle.std.specs.HashMap as hash
 use Rattle.std.specs.HashMap.{HashMap}
-use Rattle.scalar_program.specs.Lowered.{with_type}
+use Rattle.scalar_program.specs.NameMaps.{with_type}
 use Rattle.scalar_walk.specs.declared.operand.Held.{Held}
 use Rattle.scalar_walk.specs.View.{held_view}
 use Rattle.walk_scope.proofs.Tables.{is_key, updated}

@@ -1,4 +1,4 @@
--- What values of the code stand for.
+-- Part of the proof: what values of the code stand for. What is claimed of a walk doesn't rest on it.
 use Rattle.std.specs.Prelude.{◌≡◌, ℕ, ◌≤◌, Bool, true, false, List, [], ◌∷◌, length, map, Option, Some, Result, Ok, Err, bytes_eq, option_map}
 use Rattle.std.specs.Borrow.{Bor}
 use Rattle.std.specs.HashMap.{get_by}

@@ -18,7 +18,7 @@ use Rattle.fi_rules.specs.Signs.{sign_checked}
 use Rattle.fi_rules.specs.Calls.{asked, built, built_type, built_in_named}
 use Rattle.fi_rules.specs.Texts.{Around, ty_text, counts_text}
 use Rattle.fi_eval.specs.Meaning.{Context, is_variable, is_free, function_named, first_place, place_of, start}
-use Rattle.scalar_program.specs.Lowered.{with_type}
+use Rattle.scalar_program.specs.NameMaps.{with_type}
 use Rattle.walk_scope.specs.Scope.{Scope, unbuilt, other_name, scope_of}
 use Rattle.walk_scope.specs.Headers.{headers_checked}
 use Rattle.walk_scope.specs.Rules.{told_at, around_pair, around_one}

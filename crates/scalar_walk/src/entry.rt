@@ -1,12 +1,14 @@
 //! The program of an entry.
 
 ghost use Rattle.fi_rules.specs.Texts.{counts_text};
-ghost use Rattle.std.specs.Prelude.{◌≡◌, ◌<◌, ◌^◌, ◌++◌, ◌∷◌, [], length, nat_eq, IfOk, OnOk, Some, map};
+ghost use Rattle.std.specs.Prelude.{◌≡◌, ◌<◌, ◌^◌, ◌++◌, ◌∷◌, [], List, length, nat_eq, IfOk, OnOk, Some, map};
 ghost use Rattle.fic_base.specs.declared.code.Code.TheVariants as code;
+ghost use Rattle.num_type.specs.Types.{NumericType};
 ghost use Rattle.num_type.specs.View.{type_of};
 ghost use Rattle.mat_ast.specs.View.{func_view};
 ghost use Rattle.c_tree.specs.View.{program_view, slot_view, stmt_view};
 ghost use Rattle.scalar_program.specs.Lowered.{IsFunctionLowered, inputs_from, no_names, real_slots, stores_from, program_of};
+ghost use Rattle.scalar_program.specs.Correspondence.{form_of, real_form};
 ghost use Rattle.scalar_program.specs.Right.{IsRight};
 ghost use Rattle.walk_scope.specs.Told.{Passes, Refuses, choose};
 ghost use Rattle.scalar_walk.specs.Walk as walk;
@@ -28,8 +30,8 @@ use std::alloc::Global;
 use walk_scope::{Scope, arg_count};
 
 /// The program of a function at these types of its inputs. Well formed, at most 500 deep, and for every input, every contents of the
-/// outputs and every bound on turns never undefined and what evaluation of the function gives. Refused exactly as its definition tells:
-/// at the first node with a missing condition. Want of memory is the free answer.
+/// outputs and every bound on turns never undefined and what evaluation of the function gives. Its outputs have the types that the walk tells.
+/// Refused exactly as its definition tells: at the first node with a missing condition. Want of memory is the free answer.
 pub fn lower_function(
     alloc: Global,
     scope: &Scope<'_>,
@@ -40,6 +42,7 @@ pub fn lower_function(
     ensures counts { IfOk result (λ t. length f.now.inputs ≡ length types.now) }
     ensures lowered { IfOk result (λ t. IsFunctionLowered (scope_view scope.now).context (func_view f.now) (map type_of types.now) (program_view t)) }
     ensures right { IfOk result (λ t. IsRight (scope_view scope.now).context (func_view f.now) (map type_of types.now) (program_view t)) }
+    ensures outputs { IfOk result (λ t. (us : List NumericType) → walk.function_walked (scope_view scope.now) (func_view f.now) (map type_of types.now) ≡ Passes us → map form_of (program_view t).interface.outputs ≡ map real_form us) }
     ensures few { IfOk result (λ t. length t.words < 2 ^ 32) }
 {
     check_count(alloc, f, types)?;

@@ -1,6 +1,7 @@
 //! The program of a file from an entry.
 
-ghost use Rattle.std.specs.Prelude.{◌≡◌, ◌<◌, ◌^◌, length, map, IfOk, Some, option_map};
+ghost use Rattle.std.specs.Prelude.{◌≡◌, ◌<◌, ◌^◌, List, length, map, IfOk, Some, option_map};
+ghost use Rattle.num_type.specs.Types.{NumericType};
 ghost use Rattle.num_type.specs.View.{type_of};
 ghost use Rattle.mat_token.specs.Lexeme.{lexemes_of};
 ghost use Rattle.mat_ast.specs.View.{func_view, funcs_view};
@@ -8,10 +9,11 @@ ghost use Rattle.mat_ast.specs.Tree.{Fun};
 ghost use Rattle.fi_eval.specs.Meaning.{function_named};
 ghost use Rattle.c_tree.specs.View.{program_view};
 ghost use Rattle.walk_scope.specs.Shown.{text_at};
+ghost use Rattle.walk_scope.specs.Told.{Passes};
 ghost use Rattle.scalar_walk.specs.Walk.{walked};
 ghost use Rattle.scalar_program.specs.Lowered.{real_slots};
 ghost use Rattle.scalar_program.specs.Right.{HasNames};
-ghost use Rattle.scalar_program.specs.Correspondence.{IsProgramOf};
+ghost use Rattle.scalar_program.specs.Correspondence.{IsProgramOf, form_of, real_form};
 ghost use Rattle.scalar_walk.specs.View.{TellsTypes};
 
 use crate::entry::lower_function;
@@ -23,9 +25,9 @@ use num_type::{NumType, Stop};
 use std::alloc::Global;
 use walk_scope::{Scope, check_headers, refused, variables_of};
 
-/// The program of a file, from a function at these types of its inputs. Refused exactly as the definition of the walk tells: where the
-/// file has no such function, for a name of a header, for another number of types than of inputs, or at the first node with a missing
-/// condition. Want of memory is the free answer.
+/// The program of a file, from a function at these types of its inputs; its outputs have the types that the walk tells. Refused exactly as
+/// the definition of the walk tells: where the file has no such function, for a name of a header, for another number of types than of
+/// inputs, or at the first node with a missing condition. Want of memory is the free answer.
 pub fn lower_file(
     alloc: Global,
     bytes: &[u8],
@@ -36,6 +38,7 @@ pub fn lower_file(
 ) -> Result<CTree, Stop<Refusal>>
     ensures told { TellsTypes result (walked (text_at (lexemes_of bytes.now tokens.now)) (funcs_view funcs.now) entry.now (map type_of types.now)) }
     ensures right { IfOk result (λ t. (f : Fun) → function_named (funcs_view funcs.now) entry.now ≡ Some f → HasNames f → IsProgramOf (funcs_view funcs.now) entry.now (real_slots f.inputs (map type_of types.now)) (program_view t)) }
+    ensures outputs { IfOk result (λ t. (us : List NumericType) → walked (text_at (lexemes_of bytes.now tokens.now)) (funcs_view funcs.now) entry.now (map type_of types.now) ≡ Passes us → map form_of (program_view t).interface.outputs ≡ map real_form us) }
     ensures few { IfOk result (λ t. length t.words < 2 ^ 32) }
 {
     match find_entry(funcs, entry) {

@@ -1,7 +1,7 @@
 //! The variables of a function that have a value.
 
 ghost use Rattle.std.specs.Prelude.{◌≡◌, OnOk, option_map};
-ghost use Rattle.scalar_program.specs.Lowered.{with_type};
+ghost use Rattle.scalar_program.specs.NameMaps.{with_type};
 ghost use Rattle.scalar_program.specs.Lowered.{no_names};
 ghost use Rattle.scalar_walk.specs.View.{names_view, held_view};
 

@@ -15,6 +15,7 @@ use Rattle.walk_scope.specs.View.{Tells, scope_view}
 use Rattle.scalar_walk.specs.View.{TellsTypes, AreBelow, names_view, emitted_view, operand_view, behind_view, walked_view}
 use Rattle.scalar_walk.proofs.Functions.{start_of, wrong_count, starts, body_refused, outputs_refused, function_passes}
 use Rattle.scalar_program.proofs.Whole.{program_right, all_within}
+use Rattle.scalar_walk.proofs.OutputTypes.{one_told, outputs_are}
 use Rattle.scalar_walk.proofs.Lows.{function_low, inputs_below, none_below}
 use Rattle.scalar_walk.proofs.entry.lower_function.Goals as goal
 
@@ -104,3 +105,14 @@ returns-clause-told c =
           (ap (λ l. block_walked (block_view l) sc w) (sym c.as_slice-2.ensures) ∙ c.in_ok-lower_block.ensures.told)
           (ap (λ l. outputs_typed l later.types) (sym c.as_slice-3.ensures) ∙ c.in_ok-outputs.ensures.told),
     )
+
+pub returns-clause-outputs : goal.returns-clause-outputs
+returns-clause-outputs c =
+    let f = func_view c.args.f.now in
+    let ts = map type_of c.args.types.now in
+    let items = c.in_ok-outputs.outputs.items in
+    let later = walked_view c.lower_block.new.names c.lower_block.new.out in
+    λ us h. outputs_are (program_view c.in_ok-program.program) f ts (emitted_view c.lower_block.new.out) items later.types us
+    (c.in_ok-program.ensures.program ∙ ap (λ l. program_of f ts (emitted_view c.lower_block.new.out) (map operand_view l)) c.as_slice-4.ensures.value)
+    (ap (λ l. outputs_typed l later.types) (sym c.as_slice-3.ensures) ∙ c.in_ok-outputs.ensures.told)
+    (one_told (map (λ o. type_of o.num) items) us (sym (returns-clause-told c).1 ∙ h))

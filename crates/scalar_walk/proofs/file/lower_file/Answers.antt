@@ -11,7 +11,7 @@ use Rattle.walk_scope.specs.Shown.{text_at}
 use Rattle.walk_scope.specs.declared.name_set.NameSet.{NameSet}
 use Rattle.walk_scope.specs.NameSets.{names_in}
 use Rattle.walk_scope.specs.Scope.{Scope, scope_of}
-use Rattle.scalar_walk.proofs.Files.{file_none, file_headers, file_function, file_right}
+use Rattle.scalar_walk.proofs.Files.{file_none, file_headers, file_walked, file_function, file_right}
 use Rattle.scalar_walk.proofs.file.lower_file.Goals as goal
 
 pub returns-in-None-clause-told : goal.returns-in-None-clause-told
@@ -53,3 +53,13 @@ returns-in_ok-program-in-Some-clause-right c =
     let same : cx ≡ context_of fs f = λ i. record { variables = c.in_ok-variables-in-Some.ensures i; functions = (c.in_ok-functions-in-Some.ensures.names ∙ sym (map-map (λ g. g.name.text) func_view c.args.funcs.now)) i } in
     file_right fs c.args.entry.now f (map type_of c.args.types.now) (program_view c.in_ok-program-in-Some.program) (reverse (map (λ f. f.name.text) c.args.funcs.now)) cx
     (sym c.in-Some.ensures) (sym same) c.in_ok-functions-in-Some.ensures.told (c.in_ok-program-in-Some.ensures.counts ∙ sym (length-map c.args.types.now type_of)) c.in_ok-program-in-Some.ensures.right
+
+pub returns-in_ok-program-in-Some-clause-outputs : goal.returns-in_ok-program-in-Some-clause-outputs
+returns-in_ok-program-in-Some-clause-outputs c =
+    let shown = text_at (lexemes_of c.args.bytes.now c.args.tokens.now) in
+    let fs = funcs_view c.args.funcs.now in
+    let f = func_view c.in-Some.f.now in
+    let sc : Scope = record { context = record { variables = names_in c.in_ok-variables-in-Some.variables; functions = names_in c.in_ok-functions-in-Some.functions }; shown = shown } in
+    let same : sc ≡ scope_of shown fs f = λ i. record { context = record { variables = c.in_ok-variables-in-Some.ensures i; functions = (c.in_ok-functions-in-Some.ensures.names ∙ sym (map-map (λ g. g.name.text) func_view c.args.funcs.now)) i }; shown = shown } in
+    λ us h. c.in_ok-program-in-Some.ensures.outputs us (file_walked shown fs c.args.entry.now (map type_of c.args.types.now) f (reverse (map (λ f. f.name.text) c.args.funcs.now)) sc
+    (sym c.in-Some.ensures) c.in_ok-functions-in-Some.ensures.told same ∙ h)

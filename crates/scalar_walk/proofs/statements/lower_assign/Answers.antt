@@ -4,7 +4,7 @@ use Rattle.fi_rules.specs.View.{ty_view}
 use Rattle.mat_ast.specs.View.{expr_view}
 use Rattle.walk_scope.specs.Told.{Passes}
 use Rattle.scalar_walk.specs.Walk.{Types, typed, assigned}
-use Rattle.scalar_program.specs.Lowered.{with_type}
+use Rattle.scalar_program.specs.NameMaps.{with_type}
 use Rattle.scalar_walk.specs.View.{AreBelow, names_view, types_view, emitted_view, held_view, low_view, typed_view, walked_view}
 use Rattle.walk_scope.specs.View.{scope_view}
 use Rattle.scalar_walk.proofs.Lows.{assign_low, below_more, below_with}

@@ -1,6 +1,6 @@
 use Rattle.scalar_walk.proofs.Tables.{held_put}
 use Rattle.std.proofs.Common.{ap, ◌∙◌}
-use Rattle.scalar_program.specs.Lowered.{with_type}
+use Rattle.scalar_program.specs.NameMaps.{with_type}
 use Rattle.scalar_walk.specs.View.{held_view, names_view}
 use Rattle.scalar_walk.proofs.variables.Variables.set.Goals as goal
 
