@@ -21,7 +21,8 @@ use Rattle.mat_grammar.specs.Refused.{shown, IsRefused}
 use Rattle.mat_grammar.specs.Machine.{State, Complete, Stuck, step, finish, run, start, state}
 use Rattle.mat_grammar.specs.Least.{least}
 use Rattle.mat_parts.specs.Pending.{state_view}
-use Rattle.mat_parse.specs.Parsed.{IsRefusalAt, Parsed, Tree, Refused, IsParseOf, IsBehind, IsParse}
+use Rattle.mat_parse.specs.Steps.{IsRefusalAt}
+use Rattle.mat_parse.specs.Parsed.{Parsed, Tree, Refused, IsParseOf, IsBehind, IsParse}
 use Rattle.mat_grammar.proofs.Sound.{run_whole}
 use Rattle.mat_grammar.proofs.CompleteFile.{whole_runs, one_tree}
 use Rattle.mat_grammar.proofs.Ends.{live, unlive, shallow, unshallow, shallow_live, steps_append}

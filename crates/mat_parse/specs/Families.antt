@@ -1,4 +1,4 @@
--- The families of what the parser reads.
+-- Part of the proof: the families of what the parser reads. What is claimed of a source doesn't rest on it.
 use Rattle.std.specs.Prelude.{ℕ}
 use Rattle.mat_parts.specs.declared.pending.Reading.{Reading}
 use Rattle.mat_parts.specs.declared.pending.Reading.TheVariants as reading

@@ -1,6 +1,5 @@
 -- What a source gives: its tree, or its refusal.
-use Rattle.std.specs.Prelude.{◌≡◌, ◌≢◌, ◌≤◌, ◌<◌, ◌⊎◌, ℕ, List, [], codes}
-use Rattle.fic_base.specs.declared.code.Code.TheVariants as code
+use Rattle.std.specs.Prelude.{◌≡◌, ◌≤◌, ℕ, List, []}
 use Rattle.fic_base.specs.declared.refusal.Refusal.{Refusal}
 use Rattle.mat_ast.specs.Tree.{Fun}
 use Rattle.mat_ast.specs.Depth.{file_depth}
@@ -8,16 +7,7 @@ use Rattle.mat_token.specs.Lexeme.{Lexeme, lexemes_of}
 use Rattle.mat_token.specs.Reads.{Outcome, Gives, Refuses}
 use Rattle.mat_token.specs.Outcome.{IsOutcome}
 use Rattle.mat_grammar.specs.Grammar.{file}
-use Rattle.mat_grammar.specs.Machine.{State, Stuck}
-use Rattle.mat_grammar.specs.Least.{least}
-use Rattle.mat_grammar.specs.Refused.{shown, IsRefused}
-
--- the refusal at a token behind which the machine is in this state
-abbrev pub IsRefusalAt : State → Lexeme → Refusal → Type 0
-IsRefusalAt q t r =
-    (r.place ≡ t.place)
-    × (((q ≡ Stuck) × (r.code ≡ code.Syntax) × (r.shown ≡ shown t.kind t.text))
-    ⊎ ((q ≢ Stuck) × (100 < least q) × (r.code ≡ code.Limit) × (r.shown ≡ codes "100")))
+use Rattle.mat_grammar.specs.Refused.{IsRefused}
 
 -- a tree, or a refusal
 pub data Parsed : Type 0 where

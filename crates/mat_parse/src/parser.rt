@@ -10,7 +10,8 @@ ghost use Rattle.mat_grammar.specs.Machine.{Complete, step, finish};
 ghost use Rattle.mat_grammar.specs.Least.{least};
 ghost use Rattle.mat_parts.specs.Pending.{state_view};
 ghost use Rattle.mat_grammar.specs.Refused.{shown};
-ghost use Rattle.mat_parse.specs.Parsed.{IsRefusalAt, Parsed, Tree, Refused, IsParseOf, IsParse};
+ghost use Rattle.mat_parse.specs.Parsed.{Parsed, Tree, Refused, IsParseOf, IsParse};
+ghost use Rattle.mat_parse.specs.Steps.{IsRefusalAt};
 
 use crate::advance::advance;
 use crate::least::is_shallow;
