@@ -8,7 +8,7 @@ use Rattle.mat_token.specs.declared.token.Token.{Token}
 use Rattle.mat_token.specs.Reads.{Gives, Refuses}
 use Rattle.mat_token.specs.Outcome.{IsOutcome, too_long}
 use Rattle.mat_parse.specs.Parsed.{Refused, IsBehind, IsParse}
-use Rattle.fi_cli.specs.Source.{IsCompiled, IsRefusal}
+use Rattle.fi_cli.specs.Source.{IsCompiled, IsSourceRefusal}
 
 take_all : (n : ℕ) (bytes : List ℕ) → length bytes ≤ n → take n bytes ≡ bytes
 take_all zero [] h = refl
@@ -51,11 +51,11 @@ too_long_parse bytes r more h = record {
   gives = h;
 }
 
-pub cut_refusal : (source entry : List ℕ) (ds : List Declared) (r : Refusal) → IsRefusal (take 1048577 source) entry ds r → IsRefusal source entry ds r
+pub cut_refusal : (source entry : List ℕ) (ds : List Declared) (r : Refusal) → IsSourceRefusal (take 1048577 source) entry ds r → IsSourceRefusal source entry ds r
 cut_refusal source entry ds r h = by (cases_lt 1048576 (length (take 1048577 source))) h
   where
-    by : (1048576 < length (take 1048577 source)) ⊎ (length (take 1048577 source) ≤ 1048576) → IsRefusal (take 1048577 source) entry ds r → IsRefusal source entry ds r
-    by (inr few) k = subst (λ s. IsRefusal s entry ds r) (read_whole source few) k
+    by : (1048576 < length (take 1048577 source)) ⊎ (length (take 1048577 source) ≤ 1048576) → IsSourceRefusal (take 1048577 source) entry ds r → IsSourceRefusal source entry ds r
+    by (inr few) k = subst (λ s. IsSourceRefusal s entry ds r) (read_whole source few) k
     by (inl more) (inl p) =
         inl (too_long_parse source r (omega (arith, more, taken_less 1048577 source)) (subst (λ o. IsBehind (take 1048577 source) o (Refused r)) (p.is.long more) p.gives))
     by (inl more) (inr w) = absurd (no_tokens w.tokens (w.are.long more))

@@ -28,7 +28,7 @@ use Rattle.case_io.specs.declared.refusal.CaseRefusal.{CaseRefusal}
 use Rattle.case_io.specs.Cases.{Range, input_ranges}
 use Rattle.case_io.specs.Plain.{IsCase, IsBad}
 use Rattle.fi_cli.specs.Forms.{Command, Compile, Run, IsForm, IsBadAt}
-use Rattle.fi_cli.specs.Source.{num_types, IsWalk, IsRefusal}
+use Rattle.fi_cli.specs.Source.{num_types, IsWalk, IsSourceRefusal}
 use Rattle.fi_cli.specs.Results.{AreResults}
 use Rattle.fi_cli.specs.Commands as made
 use Rattle.fi_cli.specs.Commands.{Bad, BadSource, BadText, BadCases, files, AreRefused, IsRefusedBy, AllTold, AreContents}
@@ -64,7 +64,7 @@ passes_not : (ts : List NumericType) (r : Refusal) (t : Told (List NumericType))
 passes_not ts r t p q = absurd cc
 
 -- an accepted source has no refusal
-pub accepted_only : (source entry : List ℕ) (ds : List Declared) (types : List NumericType) (r : Refusal) → IsWalk source entry ds (told.Passes types) → IsRefusal source entry ds r → ⊥
+pub accepted_only : (source entry : List ℕ) (ds : List Declared) (types : List NumericType) (r : Refusal) → IsWalk source entry ds (told.Passes types) → IsSourceRefusal source entry ds r → ⊥
 accepted_only source entry ds types r w (inl p) = no_tree w.file r (parse_once source (Tree w.file) (Refused r) (walk_tree source entry ds (told.Passes types) w) p)
 accepted_only source entry ds types r w (inr v) =
     let tokens = same_tokens w.tokens v.tokens (outcome_once source (Gives w.tokens) (Gives v.tokens) w.are v.are) in
@@ -97,7 +97,7 @@ cases_apart laws r text cases turns out g h =
     read_cases r.kind r.index (input_ranges g.program.interface) g.inputs cases g.are_inputs (subst (λ p. IsBad r.kind r.index (input_ranges p.interface) cases) same h.bad)
 
 -- a command that gives something isn't refused
-apart : TextLaws → (c : Command) (contents : List (List ℕ)) (out : List ℕ) (bad : Bad) → made.Gives c contents out → IsRefusedBy bad c contents → ⊥
+apart : TextLaws → (c : Command) (contents : List (List ℕ)) (out : List ℕ) (bad : Bad) → made.IsOutput c contents out → IsRefusedBy bad c contents → ⊥
 apart laws (Compile file entry ds) (source ∷ []) out (BadSource r) g h = accepted_only source entry ds g.types r g.accepted h
 apart laws (Compile file entry ds) (source ∷ []) out (BadText r) g h = h
 apart laws (Compile file entry ds) (source ∷ []) out (BadCases r) g h = h
@@ -158,7 +158,7 @@ done_not_refused : TextLaws → (words : List (List ℕ)) (shelf : ShelfSide) (o
 done_not_refused laws words shelf out err done serves =
     let a = done.asked in
     let at = serves.told a.command a.form in
-    apart laws a.command at.contents done.text at.holds.0 (all_told shelf.told (files a.command) at.contents (λ contents. made.Gives a.command contents done.text) at.told a.holds) at.holds.1
+    apart laws a.command at.contents done.text at.holds.0 (all_told shelf.told (files a.command) at.contents (λ contents. made.IsOutput a.command contents done.text) at.told a.holds) at.holds.1
 
 done_formed : (words : List (List ℕ)) (shelf : ShelfSide) (out err : SinkSide) (n : ℕ) → IsDone words shelf out err → IsBadAt words n → ⊥
 done_formed words shelf out err n done bad = formed words n done.asked.command done.asked.form bad

@@ -4,7 +4,8 @@ use Rattle.std.specs.Prelude.{codes, slice_get, Some}
 use Rattle.std.proofs.lemmas.Option.{slice_get_within}
 use Rattle.fic_base.specs.Names.{IsName}
 use Rattle.shape_rules.specs.declared.declared.Declared.{Declared}
-use Rattle.fi_cli.specs.Forms.{Command, Compile, Run, AreTypeWords, IsCompile, IsRun, IsForm, GoesOn, IsBadAt, IsNoTypeAt}
+use Rattle.fi_cli.specs.Forms.{Command, Compile, Run, AreTypeWords, IsCompile, IsRun, IsForm, GoesOn, IsBadAt}
+use Rattle.fi_cli.specs.View.{IsNoTypeAt}
 use Rattle.fic_base.proofs.NameTests.{no_keyword}
 use Rattle.fi_cli.proofs.TypeWords.{type_at}
 

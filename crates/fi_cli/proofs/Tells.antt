@@ -11,7 +11,7 @@ use Rattle.fi_cli.specs.Causes.{ShelfSide, SinkSide, Cause, Refused, Unread, Wan
 use Rattle.num_type.specs.declared.memory.Stop.{Stop}
 use Rattle.num_type.specs.declared.memory.Stop.TheVariants as stop
 use Rattle.fic_base.specs.declared.refusal.Refusal.{Refusal}
-use Rattle.fi_cli.specs.Source.{IsRefusal}
+use Rattle.fi_cli.specs.Source.{IsSourceRefusal}
 use Rattle.fi_cli.specs.View.{Delivers, PutsLine, TellsCause, StopIs, RefusesAt}
 
 -- a fact of bytes that are told gives another
@@ -46,8 +46,8 @@ text_told result text words shelf out err asked (inr p) =
     subst (λ (n : ℕ). Says n words shelf out err) (sym p.0) (inl (record { text = text; asked = asked; part = p.1; told = p.2 }))
 
 -- a refusal of what was read stands, where it is one of the source
-pub refused_stands : (stop : Stop Refusal) (cause : Cause) (read file entry : List ℕ) (ds : List Declared) (shelf : ShelfSide) → StopIs cause (λ r. Refused (BadSource r)) stop → RefusesAt stop (IsRefusal read entry ds)
-    → ((r : Refusal) → IsRefusal read entry ds r → Told (shelf.told file) (λ source. IsRefusal source entry ds r)) → StandsAt cause (Compile file entry ds) shelf
+pub refused_stands : (stop : Stop Refusal) (cause : Cause) (read file entry : List ℕ) (ds : List Declared) (shelf : ShelfSide) → StopIs cause (λ r. Refused (BadSource r)) stop → RefusesAt stop (IsSourceRefusal read entry ds)
+    → ((r : Refusal) → IsSourceRefusal read entry ds r → Told (shelf.told file) (λ source. IsSourceRefusal source entry ds r)) → StandsAt cause (Compile file entry ds) shelf
 refused_stands (stop.Refused r) cause read file entry ds shelf is h f = subst (λ c. StandsAt c (Compile file entry ds) shelf) (sym is) (f r h)
 refused_stands stop.Memory cause read file entry ds shelf is h f = subst (λ c. StandsAt c (Compile file entry ds) shelf) (sym is) tt
 

@@ -1,4 +1,13 @@
 -- When each status has to come, where no shelf or sink fails. Want of memory is the free answer.
+--
+-- | Status | Has to come |
+-- |---|---|
+-- | 0 | the words have a form, the shelf tells the files, and nothing refuses them (carries_out); or 4 |
+-- | 1 | the words have a form, the shelf tells the files, and something refuses them (refuses); or 4 |
+-- | 2 | never: only where the shelf failed |
+-- | 3 | never: only where a sink failed |
+-- | 4 | never: it is free |
+-- | 5 | the words have no form (forms); or 4 |
 use Rattle.std.specs.Prelude.{◌≡◌, ◌⊎◌, ℕ, List}
 use Rattle.fic_io.specs.Causes.{Rose}
 use Rattle.fi_cli.specs.Forms.{Command, IsForm, IsBadAt}

@@ -13,7 +13,7 @@
 use Rattle.std.specs.Prelude.{◌≡◌, ◌⊎◌, ℕ, zero, suc, List, Option}
 use Rattle.fic_io.specs.Causes.{RoseByOne, appended}
 use Rattle.fi_cli.specs.Forms.{Command, IsForm, IsBadAt}
-use Rattle.fi_cli.specs.Commands.{Bad, BadSource, BadText, BadCases, files, IsRefusedBy, Gives, AllTold, IsOneOf}
+use Rattle.fi_cli.specs.Commands.{Bad, BadSource, BadText, BadCases, files, IsRefusedBy, IsOutput, AllTold, IsOneOf}
 use Rattle.fi_cli.specs.Lines.{refusal_line, text_line, case_line, read_line, word_line, memory_line, write_line}
 use Rattle.fi_cli.specs.Gains.{GainsPart}
 
@@ -82,7 +82,7 @@ Stands cause words shelf = AsksFor words (λ c. StandsAt cause c shelf)
 
 -- what a command gives, by what the shelf tells
 abbrev pub Yields : Command → ShelfSide → List ℕ → Type 0
-Yields c shelf bytes = AllTold shelf.told (files c) (λ contents. Gives c contents bytes)
+Yields c shelf bytes = AllTold shelf.told (files c) (λ contents. IsOutput c contents bytes)
 
 -- bytes that the words ask for
 abbrev pub IsAsked : List (List ℕ) → ShelfSide → List ℕ → Type 0

@@ -1,7 +1,7 @@
 -- What a command gives, and why it is refused, by the contents of the files that it names.
 use Rattle.std.specs.Prelude.{◌≡◌, ◌⊎◌, ℕ, List, [], ◌∷◌, Option, Some}
 use Rattle.fic_base.specs.declared.refusal.Refusal.{Refusal}
-use Rattle.fic_io.specs.Causes.{Told}
+use Rattle.fic_io.specs.Causes as shelf
 use Rattle.c_tree.specs.Tree.{Program}
 use Rattle.c_read.specs.declared.refusal.CRefusal.{CRefusal}
 use Rattle.c_read.specs.Program as text
@@ -10,7 +10,7 @@ use Rattle.case_io.specs.declared.refusal.CaseRefusal.{CaseRefusal}
 use Rattle.case_io.specs.Cases.{input_ranges}
 use Rattle.case_io.specs.Plain.{IsBad}
 use Rattle.fi_cli.specs.Forms.{Command, Compile, Run}
-use Rattle.fi_cli.specs.Source.{IsCompiled, IsRefusal}
+use Rattle.fi_cli.specs.Source.{IsCompiled, IsSourceRefusal}
 use Rattle.fi_cli.specs.Results.{AreResults}
 
 -- a refusal of what is read
@@ -32,21 +32,21 @@ pub record AreRefused (r : CaseRefusal) (text cases : List ℕ) : Type 0 where
 
 -- the command is refused so, at these contents of its files; the cases only where the text isn't
 abbrev pub IsRefusedBy : Bad → Command → List (List ℕ) → Type 0
-IsRefusedBy (BadSource r) (Compile file entry ds) (source ∷ []) = IsRefusal source entry ds r
+IsRefusedBy (BadSource r) (Compile file entry ds) (source ∷ []) = IsSourceRefusal source entry ds r
 IsRefusedBy (BadText r) (Run file cases turns) (bytes ∷ more ∷ []) = text.IsRefusal r.kind r.offset bytes
 IsRefusedBy (BadCases r) (Run file cases turns) (bytes ∷ more ∷ []) = AreRefused r bytes more
 IsRefusedBy _ _ _ = ⊥
 
--- what the command gives, at these contents of its files
-abbrev pub Gives : Command → List (List ℕ) → List ℕ → Type 0
-Gives (Compile file entry ds) (source ∷ []) out = IsCompiled source entry ds out
-Gives (Run file cases turns) (bytes ∷ more ∷ []) out = AreResults bytes more turns out
-Gives _ _ _ = ⊥
+-- the bytes are what the command gives, at these contents of its files
+abbrev pub IsOutput : Command → List (List ℕ) → List ℕ → Type 0
+IsOutput (Compile file entry ds) (source ∷ []) out = IsCompiled source entry ds out
+IsOutput (Run file cases turns) (bytes ∷ more ∷ []) out = AreResults bytes more turns out
+IsOutput _ _ _ = ⊥
 
 -- what holds of the contents of files, where they are all told
 abbrev pub AllTold : (List ℕ → Option (List ℕ)) → List (List ℕ) → (List (List ℕ) → Type 0) → Type 0
 AllTold told [] P = P []
-AllTold told (name ∷ more) P = Told (told name) (λ bytes. AllTold told more (λ contents. P (bytes ∷ contents)))
+AllTold told (name ∷ more) P = shelf.Told (told name) (λ bytes. AllTold told more (λ contents. P (bytes ∷ contents)))
 
 -- the contents of files
 abbrev pub AreContents : (List ℕ → Option (List ℕ)) → List (List ℕ) → List (List ℕ) → Type 0

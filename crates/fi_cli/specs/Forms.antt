@@ -1,5 +1,5 @@
 -- The words of a call.
-use Rattle.std.specs.Prelude.{◌≡◌, ◌≢◌, ℕ, ◌+◌, ◌<◌, ◌≤◌, false, List, [], ◌∷◌, ◌++◌, length, take, codes, decimal, slice_get, Option, Some, None}
+use Rattle.std.specs.Prelude.{◌≡◌, ◌≢◌, ℕ, ◌+◌, ◌<◌, ◌≤◌, false, List, [], ◌∷◌, ◌++◌, length, take, codes, decimal}
 use Rattle.fic_base.specs.Names.{IsName}
 use Rattle.shape_rules.specs.declared.declared.Declared.{Declared}
 use Rattle.shape_rules.specs.Declarations.{IsTypeText, IsScalar}
@@ -58,21 +58,3 @@ pub record IsBadAt (words : List (List ℕ)) (n : ℕ) : Type 0 where
   pub front : GoesOn (take n words)
   pub stops : n < length words → GoesOn (take (n + 1) words) → ⊥
   pub ends : n ≡ length words → (c : Command) → IsForm c words → ⊥
-
--- the first words are those of types, and the one at n isn't
-pub record IsNoTypeAt (words : List (List ℕ)) (n : ℕ) : Type 0 where
-  pub ds : List Declared
-  pub front : AreTypeWords (take n words) ds
-  pub word : List ℕ
-  pub there : slice_get words n ≡ Some word
-  pub none : (d : Declared) → IsTypeWord word d → ⊥
-
--- what a reader of such a word answers
-abbrev pub ReadsWord : Option Declared → List ℕ → Type 0
-ReadsWord (Some d) word = IsTypeWord word d
-ReadsWord None word = (d : Declared) → IsTypeWord word d → ⊥
-
--- what a reader of bounds answers
-abbrev pub ReadsTurns : Option ℕ → List ℕ → Type 0
-ReadsTurns (Some turns) word = IsTurnsWord word turns
-ReadsTurns None word = (turns : ℕ) → IsTurnsWord word turns → ⊥

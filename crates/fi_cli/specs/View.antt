@@ -1,5 +1,5 @@
--- What answers of the code say.
-use Rattle.std.specs.Prelude.{◌≡◌, ◌⊎◌, ℕ, List, [], ◌∷◌, false}
+-- Part of the proof: what answers of the code say. What is claimed of the top call doesn't rest on it.
+use Rattle.std.specs.Prelude.{◌≡◌, ◌⊎◌, ℕ, List, [], ◌∷◌, take, slice_get, Option, Some, None, false}
 use Rattle.fic_io.specs.Causes.{RoseByOne}
 use Rattle.shape_rules.specs.declared.declared.Declared.{Declared}
 use Rattle.shape_rules.specs.Declarations.{IsScalar}
@@ -7,7 +7,7 @@ use Rattle.fi_cli.specs.declared.call.Fault.{Fault}
 use Rattle.fi_cli.specs.declared.call.Fault.TheVariants as fault
 use Rattle.fi_cli.specs.Gains.{GainsPart}
 use Rattle.fi_cli.specs.Lines.{write_line}
-use Rattle.c_read.specs.Program.{IsRefusal}
+use Rattle.c_read.specs.Program as text
 use Rattle.fi_cli.specs.declared.results.RunStop.{RunStop}
 use Rattle.fi_cli.specs.declared.results.RunStop.TheVariants as run
 use Rattle.fi_cli.specs.Commands.{BadSource, BadText, BadCases, AreRefused}
@@ -16,7 +16,7 @@ use Rattle.fi_cli.specs.declared.words.Command as code
 use Rattle.fi_cli.specs.declared.words.Command.TheVariants as command
 use Rattle.fi_cli.specs.declared.words.TypeWords.{TypeWords}
 use Rattle.fi_cli.specs.declared.words.TypeWords.TheVariants as words
-use Rattle.fi_cli.specs.Forms.{Command, Compile, Run, AreTypeWords, IsNoTypeAt}
+use Rattle.fi_cli.specs.Forms.{Command, Compile, Run, IsTypeWord, AreTypeWords, IsTurnsWord}
 use Rattle.num_type.specs.declared.memory.Stop.{Stop}
 use Rattle.num_type.specs.declared.memory.Stop.TheVariants as stop
 
@@ -24,6 +24,24 @@ use Rattle.num_type.specs.declared.memory.Stop.TheVariants as stop
 abbrev pub RefusesAt : {R : Type 0} → Stop R → (R → Type 0) → Type 0
 RefusesAt (stop.Refused r) P = P r
 RefusesAt stop.Memory P = Unit {0}
+
+-- the first words are those of types, and the one at n isn't
+pub record IsNoTypeAt (words : List (List ℕ)) (n : ℕ) : Type 0 where
+  pub ds : List Declared
+  pub front : AreTypeWords (take n words) ds
+  pub word : List ℕ
+  pub there : slice_get words n ≡ Some word
+  pub none : (d : Declared) → IsTypeWord word d → ⊥
+
+-- what a reader of such a word answers
+abbrev pub ReadsWord : Option Declared → List ℕ → Type 0
+ReadsWord (Some d) word = IsTypeWord word d
+ReadsWord None word = (d : Declared) → IsTypeWord word d → ⊥
+
+-- what a reader of bounds answers
+abbrev pub ReadsTurns : Option ℕ → List ℕ → Type 0
+ReadsTurns (Some turns) word = IsTurnsWord word turns
+ReadsTurns None word = (turns : ℕ) → IsTurnsWord word turns → ⊥
 
 -- what a reader of type words answers
 abbrev pub ReadsWords : TypeWords → List (List ℕ) → Type 0
@@ -56,7 +74,7 @@ StopIs cause refused stop.Memory = cause ≡ Wanting
 
 -- why there are no results at a C text and cases
 abbrev pub StopsRun : RunStop → List ℕ → List ℕ → Type 0
-StopsRun (run.Text r) text cases = IsRefusal r.kind r.offset text
+StopsRun (run.Text r) bytes cases = text.IsRefusal r.kind r.offset bytes
 StopsRun (run.Cases r) text cases = AreRefused r text cases
 StopsRun run.Memory text cases = Unit {0}
 

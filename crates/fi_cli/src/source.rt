@@ -9,7 +9,7 @@ ghost use Rattle.mat_token.specs.Reads.{Gives};
 ghost use Rattle.mat_parse.specs.Parsed.{Tree, IsParse};
 ghost use Rattle.c_tree.specs.Layout.{layout};
 ghost use Rattle.c_tree.specs.View.{program_view};
-ghost use Rattle.fi_cli.specs.Source.{IsCompiled, IsRefusal, num_types};
+ghost use Rattle.fi_cli.specs.Source.{IsCompiled, IsSourceRefusal, num_types};
 ghost use Rattle.fi_cli.specs.View.{RefusesAt, AreScalars};
 
 use c_read::one_program;
@@ -58,7 +58,7 @@ fn compile_funcs(
     requires kept { AreTokensOf source.now list.now }
     requires tree { IsParse source.now (Tree (funcs_view funcs.now)) }
     ensures text { IfOk result (λ text. IsCompiled source.now entry.now types.now text.items) }
-    ensures refusal { IfErr result (λ stop. RefusesAt stop (IsRefusal source.now entry.now types.now)) }
+    ensures refusal { IfErr result (λ stop. RefusesAt stop (IsSourceRefusal source.now entry.now types.now)) }
 {
     layout_is_a_text();
     one_program();
@@ -88,7 +88,7 @@ fn compile_tokens(
     requires tokens { IsOutcome source.now (Gives list.now) }
     requires kept { AreTokensOf source.now list.now }
     ensures text { IfOk result (λ text. IsCompiled source.now entry.now types.now text.items) }
-    ensures refusal { IfErr result (λ stop. RefusesAt stop (IsRefusal source.now entry.now types.now)) }
+    ensures refusal { IfErr result (λ stop. RefusesAt stop (IsSourceRefusal source.now entry.now types.now)) }
 {
     match parse_list(alloc, source, list) {
         Ok(file) => compile_funcs(alloc, source, list, file.funcs(), entry, types),
@@ -105,7 +105,7 @@ pub fn compile_source(
 ) -> Result<Vec<u8>, Stop<Refusal>>
     requires { AreScalars types.now }
     ensures text { IfOk result (λ text. IsCompiled source.now entry.now types.now text.items) }
-    ensures refusal { IfErr result (λ stop. RefusesAt stop (IsRefusal source.now entry.now types.now)) }
+    ensures refusal { IfErr result (λ stop. RefusesAt stop (IsSourceRefusal source.now entry.now types.now)) }
 {
     match tokens(alloc, source) {
         Ok(list) => compile_tokens(alloc, source, &list, entry, types),

@@ -1,8 +1,8 @@
 //! The words of a call.
 
 ghost use Rattle.std.specs.Prelude.{◌≡◌, ◌↔◌, ◌∷◌, [], IsTrue, codes, map, string_bytes, IfOk, IfErr};
-ghost use Rattle.fi_cli.specs.Forms.{IsCompile, IsRun, IsForm, IsBadAt, ReadsWord, ReadsTurns};
-ghost use Rattle.fi_cli.specs.View.{ReadsWords, RefusesAt, command_view};
+ghost use Rattle.fi_cli.specs.Forms.{IsCompile, IsRun, IsForm, IsBadAt};
+ghost use Rattle.fi_cli.specs.View.{ReadsWord, ReadsWords, ReadsTurns, RefusesAt, command_view};
 
 use fic_base::is_name;
 use num_type::{Memory, Stop, read_digits};

@@ -25,6 +25,7 @@ returns-in-Ok-clause-text c =
     (λ f e h. subst (λ (ns : List NumericType). IsProgramOf (funcs_view c.args.funcs.now) c.args.entry.now (real_slots f.inputs ns) (program_view c.in-Ok.tree)) nums
     (subst (λ (name : List ℕ). IsProgramOf (funcs_view c.args.funcs.now) name (real_slots f.inputs (map type_of c.as_slice.result.now)) (program_view c.in-Ok.tree)) c.as_bytes.ensures.value
     (c.in-Ok.ensures.right f (subst (λ (name : List ℕ). function_named (funcs_view c.args.funcs.now) name ≡ Some f) (sym c.as_bytes.ensures.value) e) h)))
+    (c.in-Ok.ensures.outputs c.in-Ok.ensures.told.0 c.in-Ok.ensures.told.1)
     c.in_ok-text_of-in-Ok.ensures c.layout_is_a_text.ensures c.one_program.ensures
 
 pub returns-clause-refusal : goal.returns-clause-refusal

@@ -4,8 +4,8 @@ use Rattle.std.proofs.lemmas.Bool.{false≢true}
 use Rattle.std.proofs.lemmas.List.{length-map}
 use Rattle.std.proofs.lemmas.Option.{slice_get_within}
 use Rattle.fic_base.specs.Names.{IsName}
-use Rattle.fi_cli.specs.Forms.{AreTypeWords, IsNoTypeAt, IsCompile}
-use Rattle.fi_cli.specs.View.{ReadsWords}
+use Rattle.fi_cli.specs.Forms.{AreTypeWords, IsCompile}
+use Rattle.fi_cli.specs.View.{ReadsWords, IsNoTypeAt}
 use Rattle.fi_cli.proofs.FormTests.{bad_end1, bad1, bad_end2, bad2, bad3, is_form}
 use Rattle.fi_cli.proofs.words.read_compile.Goals as goal
 
