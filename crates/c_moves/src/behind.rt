@@ -26,6 +26,7 @@ use std::alloc::Global;
 fn refuse_behind(e: CExpr, pending: Pending) -> Option<Reader>
     ensures { Goes result Stuck }
 {
+    drop(e);
     refuse(pending)
 }
 
@@ -225,7 +226,10 @@ fn closed_test(alloc: Global, test: CTest, pending: Pending) -> Result<Option<Re
     } = pending;
     let mut frames = frames;
     match pop(&mut frames) {
-        None => Ok(refuse_whole(test, purpose, past)),
+        None => {
+            drop(frames);
+            Ok(refuse_whole(test, purpose, past))
+        }
         Some(frame) => test_in(
             alloc,
             test,
@@ -503,7 +507,10 @@ pub fn have(
     } = pending;
     let mut frames = frames;
     match pop(&mut frames) {
-        None => have_whole(alloc, arrays, e, t, word, purpose, past),
+        None => {
+            drop(frames);
+            have_whole(alloc, arrays, e, t, word, purpose, past)
+        }
         Some(frame) => {
             let pending = Pending {
                 frames,

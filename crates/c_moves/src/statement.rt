@@ -1,6 +1,6 @@
 //! What comes at a word between statements, and where one ends.
 
-ghost use Rattle.std.specs.Prelude.{◌≡◌, ◌∷◌, ◌++◌, [], IfOk, OnOk};
+ghost use Rattle.std.specs.Prelude.{◌≡◌, ◌∷◌, ◌++◌, [], IfOk};
 ghost use Rattle.c_tree.specs.View.{expr_view, stmt_view, block_view};
 ghost use Rattle.c_tree.specs.Names.{array_at};
 ghost use Rattle.c_tree.specs.WellFormed.{is_return, last_is_return};
@@ -25,6 +25,7 @@ use std::alloc::{AllocError, Global};
 pub fn let_go(e: CExpr, purpose: Purpose, past: Past) -> Option<Reader>
     ensures { Goes result Stuck }
 {
+    drop(e);
     drop(purpose);
     drop(past);
     None
@@ -34,6 +35,7 @@ pub fn let_go(e: CExpr, purpose: Purpose, past: Past) -> Option<Reader>
 fn refuse(past: Past) -> Option<Reader>
     ensures { Goes result Stuck }
 {
+    drop(past);
     None
 }
 
@@ -43,8 +45,14 @@ fn with_statement(statement: CStmt, past: Past) -> Result<Past, AllocError>
 {
     let Past { words, done } = past;
     let mut done = done;
-    done.push(statement)?;
-    Ok(Past { words, done })
+    match done.push(statement) {
+        Err(error) => {
+            drop(words);
+            drop(done);
+            Err(error)
+        }
+        Ok(()) => Ok(Past { words, done }),
+    }
 }
 
 /// The statements with one more, and a statement may come. Want of memory is the only refusal.
@@ -89,14 +97,16 @@ fn store_word(arrays: &Arrays, a: CArray) -> CWordToken
 fn store_words(alloc: Global, t: CWordToken) -> Result<Items<CWordToken>, Memory>
     ensures { IfOk result (λ ws. ws ≡ word.Sign sign.Assign ∷ word.Sign sign.Open ∷ t ∷ word.Sign sign.Close ∷ []) }
 {
-    let mut words = two(
-        alloc,
+    let words = [
         CWordToken::Sign(CSign::Assign),
         CWordToken::Sign(CSign::Open),
-    )?;
-    words.push(t)?;
-    words.push(CWordToken::Sign(CSign::Close))?;
-    Ok(words)
+        t,
+        CWordToken::Sign(CSign::Close),
+    ];
+    match Items::from_slice(alloc, &words) {
+        Err(_) => Err(Memory),
+        Ok(words) => Ok(words),
+    }
 }
 
 /// The value of a store is owed behind its subscript. Want of memory is the only refusal.
@@ -221,6 +231,7 @@ fn storing(alloc: Global, arrays: &Arrays, a: CArray, past: Past) -> Result<Opti
 
 /// A refusal, which ends what was read.
 fn given_up(past: Past, error: Memory) -> Memory {
+    drop(past);
     error
 }
 
@@ -338,29 +349,23 @@ fn macro_of(t: CWord) -> CMacro
     }
 }
 
-/// The zero of a type behind its macro, and the end of a declaration. Want of memory is the only refusal.
-fn push_zero(words: &mut Items<CWordToken>) -> Result<(), Memory>
-    ensures { OnOk result (words.new ≡ words.old ++ (word.Sign sign.Open ∷ word.Number 0 ∷ word.Sign sign.Close ∷ word.Sign sign.Semicolon ∷ [])) }
-{
-    words.push(CWordToken::Sign(CSign::Open))?;
-    words.push(CWordToken::Number(0))?;
-    words.push(CWordToken::Sign(CSign::Close))?;
-    words.push(CWordToken::Sign(CSign::Semicolon))?;
-    Ok(())
-}
-
 /// The words behind the type of a variable of this number. Want of memory is the only refusal.
 fn declared(alloc: Global, t: CWord, number: u32) -> Result<Items<CWordToken>, Memory>
     ensures { IfOk result (λ ws. ws ≡ word.Var number ∷ word.Sign sign.Assign ∷ word.Macro (macro_of t) ∷ word.Sign sign.Open ∷ word.Number 0 ∷ word.Sign sign.Close ∷ word.Sign sign.Semicolon ∷ []) }
 {
-    let mut words = two(
-        alloc,
+    let words = [
         CWordToken::Var(number),
         CWordToken::Sign(CSign::Assign),
-    )?;
-    words.push(CWordToken::Macro(macro_of(t)))?;
-    push_zero(&mut words)?;
-    Ok(words)
+        CWordToken::Macro(macro_of(t)),
+        CWordToken::Sign(CSign::Open),
+        CWordToken::Number(0),
+        CWordToken::Sign(CSign::Close),
+        CWordToken::Sign(CSign::Semicolon),
+    ];
+    match Items::from_slice(alloc, &words) {
+        Err(_) => Err(Memory),
+        Ok(words) => Ok(words),
+    }
 }
 
 /// The types with one more. Want of memory is the only refusal.
@@ -368,21 +373,48 @@ fn and_type(words: Items<CWord>, t: CWord) -> Result<Items<CWord>, AllocError>
     ensures { IfOk result (λ made. made ≡ words ++ t ∷ []) }
 {
     let mut words = words;
-    words.push(t)?;
-    Ok(words)
+    match words.push(t) {
+        Err(error) => {
+            drop(words);
+            Err(error)
+        }
+        Ok(()) => Ok(words),
+    }
+}
+
+/// The words of a declaration are owed, behind which there is a variable more. Want of memory is the only refusal.
+#[tactic(auto, unfolding(c_parts::specs::View::reading_view))]
+fn declaring_behind(
+    expected: Items<CWordToken>,
+    t: CWord,
+    words: Items<CWord>,
+) -> Result<Option<Reader>, Memory>
+    ensures { IfOk result (λ next. Goes next (machine.owe expected (machine.Declare (words ++ t ∷ [])))) }
+{
+    match and_type(words, t) {
+        Err(_) => {
+            drop(expected);
+            Err(Memory)
+        }
+        Ok(words) => Ok(Some(behind(expected, Reading::Declare(words)))),
+    }
 }
 
 /// A variable's declaration, behind its type. Want of memory is the only refusal.
-#[tactic(auto, unfolding(c_parts::specs::View::reading_view))]
 fn declaring(alloc: Global, t: CWord, words: Items<CWord>) -> Result<Option<Reader>, Memory>
     ensures { IfOk result (λ next. Goes next (declaring t words)) }
 {
     let number = words.len();
     if number < 4_294_967_295 {
-        let expected = declared(alloc, t, number as u32)?;
-        let words = and_type(words, t)?;
-        Ok(Some(behind(expected, Reading::Declare(words))))
+        match declared(alloc, t, number as u32) {
+            Err(error) => {
+                drop(words);
+                Err(error)
+            }
+            Ok(expected) => declaring_behind(expected, t, words),
+        }
     } else {
+        drop(words);
         Ok(None)
     }
 }
@@ -415,7 +447,10 @@ fn type_word(
     match container {
         Container::I64 => declaring(alloc, CWord::I64, words),
         Container::U64 => declaring(alloc, CWord::U64, words),
-        _ => Ok(None),
+        _ => {
+            drop(words);
+            Ok(None)
+        }
     }
 }
 

@@ -20,6 +20,7 @@ use std::alloc::Global;
 fn refuse_behind(past: Past) -> Option<Reader>
     ensures { Goes result Stuck }
 {
+    drop(past);
     None
 }
 
@@ -50,6 +51,8 @@ fn advance(
 fn refuse(words: Items<CWordToken>, reading: Reading) -> Option<Reader>
     ensures { Goes result Stuck }
 {
+    drop(words);
+    drop(reading);
     None
 }
 
@@ -98,7 +101,10 @@ pub fn step(
 {
     let Reader { words, at, reading } = reader;
     match expected(words.as_slice(), at) {
-        None => advance(alloc, arrays, reading, word),
+        None => {
+            drop(words);
+            advance(alloc, arrays, reading, word)
+        }
         Some(due) => Ok(compared(words, at, reading, due, word)),
     }
 }

@@ -66,13 +66,15 @@ fn stepped(
 fn refuse(words: Items<CWordToken>, reading: Reading) -> Option<Past>
     ensures { result ≡ None }
 {
-    None
+    drop(words);
+    refuse_reading(reading)
 }
 
 /// No whole function.
 fn refuse_reading(reading: Reading) -> Option<Past>
     ensures { result ≡ None }
 {
+    drop(reading);
     None
 }
 
@@ -159,6 +161,7 @@ fn read_tree(alloc: Global, tree: &CTree, words: &[CWordToken]) -> Result<Past, 
         Err(_) => Err(Stop::Memory),
         Ok(arrays) => {
             let found = read_with(alloc, &tree.interface, &arrays, words);
+            drop(arrays);
             found
         }
     }
@@ -192,6 +195,7 @@ fn interface_of(tree: CTree) -> Interface
 fn failed(tree: CTree, stop: Stop<BadWord>) -> Stop<BadWord>
     ensures { result ≡ stop }
 {
+    drop(tree);
     stop
 }
 

@@ -98,11 +98,13 @@ pub fn now(alloc: Global, reading: Reading) -> Reader
 pub fn refuse(pending: Pending) -> Option<Reader>
     ensures { Goes result Stuck }
 {
+    drop(pending);
     None
 }
 
 /// A refusal, which ends what waits.
 pub fn failed(pending: Pending, error: Memory) -> Memory {
+    drop(pending);
     error
 }
 
@@ -116,12 +118,19 @@ pub fn under(frame: Frame, pending: Pending) -> Result<Pending, AllocError>
         past,
     } = pending;
     let mut frames = frames;
-    push(&mut frames, frame)?;
-    Ok(Pending {
-        frames,
-        purpose,
-        past,
-    })
+    match push(&mut frames, frame) {
+        Err(error) => {
+            drop(frames);
+            drop(purpose);
+            drop(past);
+            Err(error)
+        }
+        Ok(()) => Ok(Pending {
+            frames,
+            purpose,
+            past,
+        }),
+    }
 }
 
 /// An operand of such a type is owed below one more frame. Want of memory is the only refusal.

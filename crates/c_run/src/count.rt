@@ -1,6 +1,6 @@
 //! How many tokens a tree has, if a `u64` counts them.
 
-ghost use Rattle.std.specs.Prelude.{◌≡◌, ◌+◌, ◌<◌, ◌^◌, IfSome};
+ghost use Rattle.std.specs.Prelude.{◌≡◌, ◌+◌, ◌<◌, ◌≤◌, ◌^◌, MatchOption};
 ghost use Rattle.c_tree.specs.View.{expr_view, test_view, stmt_view, block_view, program_view};
 ghost use Rattle.c_tree.specs.Names;
 ghost use Rattle.c_tree.specs.Tokens.{tokens, test_tokens, sta_tokens, block_tokens, body_token};
@@ -10,7 +10,7 @@ use c_tree::{Arrays, CExpr, CStmt, CTest, CTree};
 // So many more and the tokens of an expression.
 #[cycle(count)]
 fn count_expr(e: &CExpr, sum: u64) -> Option<u64>
-    ensures { IfSome result (λ n. n ≡ sum + tokens (expr_view e.now)) }
+    ensures { MatchOption result (2 ^ 64 ≤ sum + tokens (expr_view e.now)) (λ n. n ≡ sum + tokens (expr_view e.now)) }
 {
     match e {
         CExpr::I64(_) => sum.checked_add(4),
@@ -50,7 +50,7 @@ fn count_expr(e: &CExpr, sum: u64) -> Option<u64>
 // So many more and the tokens of a test.
 #[cycle(count)]
 fn count_test(t: &CTest, sum: u64) -> Option<u64>
-    ensures { IfSome result (λ n. n ≡ sum + test_tokens (test_view t.now)) }
+    ensures { MatchOption result (2 ^ 64 ≤ sum + test_tokens (test_view t.now)) (λ n. n ≡ sum + test_tokens (test_view t.now)) }
 {
     let sum = count_expr(&t.left, sum)?;
     let sum = count_expr(&t.right, sum)?;
@@ -59,7 +59,7 @@ fn count_test(t: &CTest, sum: u64) -> Option<u64>
 
 // So many more and the tokens of an assignment to a variable.
 fn count_set(value: &CExpr, sum: u64) -> Option<u64>
-    ensures { IfSome result (λ n. n ≡ sum + (3 + tokens (expr_view value.now))) }
+    ensures { MatchOption result (2 ^ 64 ≤ sum + (3 + tokens (expr_view value.now))) (λ n. n ≡ sum + (3 + tokens (expr_view value.now))) }
 {
     let sum = count_expr(value, sum)?;
     sum.checked_add(3)
@@ -67,7 +67,7 @@ fn count_set(value: &CExpr, sum: u64) -> Option<u64>
 
 // So many more and the tokens of a store.
 fn count_store(at: &CExpr, value: &CExpr, sum: u64) -> Option<u64>
-    ensures { IfSome result (λ n. n ≡ sum + (8 + tokens (expr_view at.now) + tokens (expr_view value.now))) }
+    ensures { MatchOption result (2 ^ 64 ≤ sum + (8 + tokens (expr_view at.now) + tokens (expr_view value.now))) (λ n. n ≡ sum + (8 + tokens (expr_view at.now) + tokens (expr_view value.now))) }
 {
     let sum = count_expr(at, sum)?;
     let sum = count_expr(value, sum)?;
@@ -77,7 +77,7 @@ fn count_store(at: &CExpr, value: &CExpr, sum: u64) -> Option<u64>
 // So many more and the tokens of a statement.
 #[cycle(count_stmt)]
 fn count_stmt(s: &CStmt, sum: u64) -> Option<u64>
-    ensures { IfSome result (λ n. n ≡ sum + sta_tokens (stmt_view s.now)) }
+    ensures { MatchOption result (2 ^ 64 ≤ sum + sta_tokens (stmt_view s.now)) (λ n. n ≡ sum + sta_tokens (stmt_view s.now)) }
 {
     match s {
         CStmt::Set { var: _, value } => count_set(value, sum),
@@ -119,7 +119,7 @@ fn count_stmt(s: &CStmt, sum: u64) -> Option<u64>
 /// So many more and the tokens of some statements; None where that isn't below 2^64.
 #[cycle(count_stmt)]
 pub fn count_block(body: &[CStmt], sum: u64) -> Option<u64>
-    ensures { IfSome result (λ n. n ≡ sum + block_tokens (block_view body.now)) }
+    ensures { MatchOption result (2 ^ 64 ≤ sum + block_tokens (block_view body.now)) (λ n. n ≡ sum + block_tokens (block_view body.now)) }
 {
     let mut all = sum;
     for s in body {
@@ -131,7 +131,7 @@ pub fn count_block(body: &[CStmt], sum: u64) -> Option<u64>
 /// The number of the first token of a program's statements; None where that isn't below 2^64.
 pub fn count_front(tree: &CTree, all: &Arrays) -> Option<u64>
     requires { all.now ≡ Names.arrays_of (program_view tree.now) }
-    ensures { IfSome result (λ n. n ≡ body_token (program_view tree.now)) }
+    ensures { MatchOption result (2 ^ 64 ≤ body_token (program_view tree.now)) (λ n. n ≡ body_token (program_view tree.now)) }
 {
     let inputs = all.inputs.len() as u128;
     let outputs = all.outputs.len() as u128;

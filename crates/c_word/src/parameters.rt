@@ -1,6 +1,6 @@
 //! The names of parameters.
 
-ghost use Rattle.std.specs.Prelude.{◌≡◌, ◌+◌, ◌++◌, ℕ, suc, length, map, IfOk, OnOk};
+ghost use Rattle.std.specs.Prelude.{◌≡◌, ◌+◌, ◌≤◌, ◌^◌, ◌++◌, ℕ, suc, length, map, IfErr, IfOk, OnOk};
 ghost use Rattle.c_tree.specs.View.{kind_view, slot_view};
 ghost use Rattle.c_tree.specs.Names as names;
 ghost use Rattle.c_tree.specs.Names.{slot_arrays, slots_arrays};
@@ -69,7 +69,8 @@ fn is_complex(kind: CKind) -> bool
 
 /// The number behind a number of an array. It refuses as want of memory where a `u32` has none.
 fn behind(number: u32) -> Result<u32, Memory>
-    ensures { IfOk result (λ next. next ≡ suc number) }
+    ensures next { IfOk result (λ next. next ≡ suc number) }
+    ensures limit { IfErr result (λ e. 2 ^ 32 ≤ suc number) }
 {
     match number.checked_add(1) {
         None => Err(Memory),

@@ -1,6 +1,6 @@
 //! Statements, each on lines of its own.
 
-ghost use Rattle.std.specs.Prelude.{◌≡◌, ◌++◌, OnOk, suc, codes, decimal};
+ghost use Rattle.std.specs.Prelude.{◌≡◌, ◌≤◌, ◌^◌, ◌++◌, IfErr, IfOk, OnOk, suc, codes, decimal};
 ghost use Rattle.c_tree.specs.Texts.{store_text, var_text};
 ghost use Rattle.c_tree.specs.View.{expr_view, test_view, stmt_view, block_view};
 ghost use Rattle.c_tree.specs.Layout.{exp_text, indent, start_text, limit_text, step_text, for_text, head_text, target_text, sta_text, block_text};
@@ -57,6 +57,17 @@ pub fn put_stmt(out: &mut Vec<u8>, all: &Arrays, depth: usize, s: &CStmt) -> Res
     }
 }
 
+// How many braces are open in a body. It refuses as want of memory where a `usize` has no such number.
+fn within(depth: usize) -> Result<usize, Memory>
+    ensures next { IfOk result (λ inner. inner ≡ suc depth) }
+    ensures limit { IfErr result (λ e. 2 ^ 64 ≤ suc depth) }
+{
+    match depth.checked_add(1) {
+        None => Err(Memory),
+        Some(inner) => Ok(inner),
+    }
+}
+
 // The statements of a body, and the blanks before its closing brace.
 #[cycle(stmt)]
 fn put_body(
@@ -67,9 +78,7 @@ fn put_body(
 ) -> Result<(), Memory>
     ensures { OnOk result (out.new.items ≡ out.old.items ++ block_text all.now (suc depth) (block_view body.now) ++ indent depth) }
 {
-    let Some(inner) = depth.checked_add(1) else {
-        return Err(Memory);
-    };
+    let inner = within(depth)?;
     put_block(out, all, inner, body.as_slice())?;
     put_indent(out, depth)
 }
