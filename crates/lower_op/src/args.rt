@@ -76,6 +76,21 @@ fn lower_pair(
     }
 }
 
+// Copies of two operands.
+fn copy_both(alloc: Global, a: &CExpr, b: &CExpr) -> Result<(CExpr, CExpr), Memory>
+    ensures left { IfOk result (λ r. expr_view r.0 ≡ expr_view a.now) }
+    ensures right { IfOk result (λ r. expr_view r.1 ≡ expr_view b.now) }
+{
+    let left = copy_expr(alloc, a)?;
+    match copy_expr(alloc, b) {
+        Ok(right) => Ok((left, right)),
+        Err(error) => {
+            drop(left);
+            Err(error)
+        }
+    }
+}
+
 // The part of an operation on two real values.
 fn lower_reals(
     alloc: Global,
@@ -90,8 +105,7 @@ fn lower_reals(
     requires typed { CanLower op.now (Real (operand p a.now) ∷ Real (operand q b.now) ∷ []) fresh }
     ensures { IfOk result (λ r. Lowers op.now (Real (operand p a.now) ∷ Real (operand q b.now) ∷ []) fresh (part_view r)) }
 {
-    let left = copy_expr(alloc, a)?;
-    let right = copy_expr(alloc, b)?;
+    let (left, right) = copy_both(alloc, a, b)?;
     match op.result {
         Some(t) => {
             let r = lower_two(alloc, op.op, op.math, t, p, left, q, right, fresh)?;
@@ -119,8 +133,7 @@ fn lower_truths(
     match op.result {
         Some(_) => unreachable!(),
         None => {
-            let left = copy_expr(alloc, a)?;
-            let right = copy_expr(alloc, b)?;
+            let (left, right) = copy_both(alloc, a, b)?;
             let r = lower_equality(alloc, op.op, left, right, fresh)?;
             Ok(r)
         }

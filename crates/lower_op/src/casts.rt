@@ -36,19 +36,25 @@ pub fn add_cast(
     requires right { reach (expr_view b) ≤ fresh }
     ensures { IfOk result (λ r. Adds m (type_of t) (operand p a) (operand q b) fresh (part_view r)) }
 {
-    let left = take(alloc, m, t, p, a, fresh)?;
-    let next = behind(fresh, &left.words);
-    let right = take(alloc, m, t, q, b, next)?;
-    let last = behind(next, &right.words);
+    let both = take_both(alloc, m, t, p, a, q, b, fresh)?;
+    let next = behind(fresh, &both.0.words);
+    let last = behind(next, &both.1.words);
+    let signed = t.signed();
+    let word = t.word();
     let v = Two {
         x: last,
         y: last + 1,
     };
-    let signed = t.signed();
-    let word = t.word();
-    let sum = sum_fitted(alloc, m.overflow, signed, word, v)?;
-    let r = join(alloc, signed, left, right, last, sum)?;
-    Ok(r)
+    match sum_fitted(alloc, m.overflow, signed, word, v) {
+        Ok(sum) => {
+            let r = join(alloc, signed, both.0, both.1, last, sum)?;
+            Ok(r)
+        }
+        Err(error) => {
+            drop(both);
+            Err(error)
+        }
+    }
 }
 
 /// The part that takes both to the type `t` and subtracts there by the overflow action: with CastBeforeSum. Want of memory is the only
@@ -69,19 +75,25 @@ pub fn subtract_cast(
     requires right { reach (expr_view b) ≤ fresh }
     ensures { IfOk result (λ r. Subtracts m (type_of t) (operand p a) (operand q b) fresh (part_view r)) }
 {
-    let left = take(alloc, m, t, p, a, fresh)?;
-    let next = behind(fresh, &left.words);
-    let right = take(alloc, m, t, q, b, next)?;
-    let last = behind(next, &right.words);
+    let both = take_both(alloc, m, t, p, a, q, b, fresh)?;
+    let next = behind(fresh, &both.0.words);
+    let last = behind(next, &both.1.words);
+    let signed = t.signed();
+    let word = t.word();
     let v = Two {
         x: last,
         y: last + 1,
     };
-    let signed = t.signed();
-    let word = t.word();
-    let difference = difference_fitted(alloc, m.overflow, signed, word, v)?;
-    let r = join(alloc, signed, left, right, last, difference)?;
-    Ok(r)
+    match difference_fitted(alloc, m.overflow, signed, word, v) {
+        Ok(difference) => {
+            let r = join(alloc, signed, both.0, both.1, last, difference)?;
+            Ok(r)
+        }
+        Err(error) => {
+            drop(both);
+            Err(error)
+        }
+    }
 }
 
 // The part that takes an operand to the type `t`; it has few variables.
@@ -99,6 +111,40 @@ fn take(
 {
     let r = quantise_part(alloc, t, m.rounding, m.overflow, p, a, fresh)?;
     Ok(r)
+}
+
+// The parts that take two operands to the type `t`, the second's variables behind the first's.
+fn take_both(
+    alloc: Global,
+    m: Fimath,
+    t: NumType,
+    p: NumType,
+    a: CExpr,
+    q: NumType,
+    b: CExpr,
+    fresh: u32,
+) -> Result<(CPart, CPart), Memory>
+    requires { fresh ≤ 2 ^ 31 }
+    ensures left { IfOk result (λ r. part_view r.0 ≡ Operators.left_part m (type_of t) (operand p a) fresh) }
+    ensures right { IfOk result (λ r. part_view r.1 ≡ Operators.left_part m (type_of t) (operand q b) (fresh + length r.0.words)) }
+    ensures few { IfOk result (λ r. (length r.0.words ≤ 100) × (length r.1.words ≤ 100)) }
+{
+    match take(alloc, m, t, p, a, fresh) {
+        Ok(left) => {
+            let next = behind(fresh, &left.words);
+            match take(alloc, m, t, q, b, next) {
+                Ok(right) => Ok((left, right)),
+                Err(error) => {
+                    drop(left);
+                    Err(error)
+                }
+            }
+        }
+        Err(error) => {
+            drop(b);
+            Err(error)
+        }
+    }
 }
 
 // The number of the first variable behind a part's.
@@ -132,14 +178,45 @@ fn join(
         before: after,
         value: second,
     } = q;
-    let words = join_words(words, more, word_for(signed))?;
-    let pair = two_sets(alloc, last, first, second)?;
-    let before = join_statements(before, after, pair)?;
-    Ok(CPart {
-        words,
-        before,
-        value,
-    })
+    match two_sets(alloc, last, first, second) {
+        Ok(pair) => match join_statements(before, after, pair) {
+            Ok(before) => with_words(words, more, word_for(signed), before, value),
+            Err(error) => {
+                drop(value);
+                Err(error)
+            }
+        },
+        Err(error) => {
+            drop(before);
+            drop(after);
+            drop(value);
+            Err(error)
+        }
+    }
+}
+
+// A part of these statements and this value, with the types of two parts' variables, and of two more.
+fn with_words(
+    words: Items<CWord>,
+    more: Items<CWord>,
+    word: CWord,
+    before: Items<CStmt>,
+    value: CExpr,
+) -> Result<CPart, Memory>
+    ensures { IfOk result (λ r. part_view r ≡ record { words = words ++ (more ++ (word ∷ word ∷ [])); before = map stmt_view before; value = expr_view value }) }
+{
+    match join_words(words, more, word) {
+        Ok(words) => Ok(CPart {
+            words,
+            before,
+            value,
+        }),
+        Err(error) => {
+            drop(before);
+            drop(value);
+            Err(error)
+        }
+    }
 }
 
 // The types of two parts' variables, and of two more.
@@ -154,14 +231,33 @@ fn join_words(words: Items<CWord>, more: Items<CWord>, word: CWord) -> Result<It
 }
 
 // Two variables take values.
-fn two_sets(alloc: Global, last: u32, first: CExpr, second: CExpr) -> Result<Items<CStmt>, Memory>
+pub fn two_sets(
+    alloc: Global,
+    last: u32,
+    first: CExpr,
+    second: CExpr,
+) -> Result<Items<CStmt>, Memory>
     requires { last ≤ 2 ^ 31 + 2 ^ 30 }
     ensures { IfOk result (λ r. map stmt_view r ≡ Set last (expr_view first) ∷ Set (suc last) (expr_view second) ∷ []) }
 {
     let mut pair = Items::new(alloc);
-    pair.push(c_tree::set(last, first))?;
-    pair.push(c_tree::set(last + 1, second))?;
-    Ok(pair)
+    match pair.push(c_tree::set(last, first)) {
+        Ok(()) => and_set(pair, last + 1, second),
+        Err(error) => {
+            drop(pair);
+            drop(second);
+            Err(Memory::from(error))
+        }
+    }
+}
+
+// One more variable takes a value.
+pub fn and_set(before: Items<CStmt>, var: u32, value: CExpr) -> Result<Items<CStmt>, Memory>
+    ensures { IfOk result (λ r. map stmt_view r ≡ map stmt_view before ++ (Set var (expr_view value) ∷ [])) }
+{
+    let mut before = before;
+    before.push(c_tree::set(var, value))?;
+    Ok(before)
 }
 
 // The statements of two parts, and then others.
@@ -173,7 +269,15 @@ fn join_statements(
     ensures { IfOk result (λ r. map stmt_view r ≡ map stmt_view before ++ (map stmt_view after ++ map stmt_view pair)) }
 {
     let mut before = before;
-    before.append(after)?;
-    before.append(pair)?;
-    Ok(before)
+    match before.append(after) {
+        Ok(()) => {
+            before.append(pair)?;
+            Ok(before)
+        }
+        Err(error) => {
+            drop(before);
+            drop(pair);
+            Err(Memory::from(error))
+        }
+    }
 }

@@ -1,7 +1,9 @@
 //! Words in variables, compared.
 
 ghost use Rattle.std.specs.Prelude.{◌≡◌, ◌≤◌, IfOk};
+ghost use Rattle.c_tree.specs.Tree.{Cast};
 ghost use Rattle.c_tree.specs.View.{expr_view};
+ghost use Rattle.c_tree.specs.declared.tree.CWord.TheVariants.{U64};
 ghost use Rattle.lower_op.specs.CompareShapes;
 
 use crate::relations::{holds_above, holds_below};
@@ -19,6 +21,32 @@ fn truth_of(alloc: Global, rel: CRel, a: CExpr, b: CExpr) -> Result<CExpr, Memor
     Ok(r)
 }
 
+// The same where the first is an `int64_t` from 0 on beside a `uint64_t`.
+fn signed_first(alloc: Global, rel: CRel, a: CExpr, b: CExpr) -> Result<CExpr, Memory>
+    ensures { IfOk result (λ r. expr_view r ≡ CompareShapes.truth_of rel (Cast U64 (expr_view a)) (expr_view b)) }
+{
+    match c_tree::cast(alloc, CWord::U64, a) {
+        Ok(bits) => truth_of(alloc, rel, bits, b),
+        Err(error) => {
+            drop(b);
+            Err(error)
+        }
+    }
+}
+
+// The same where the second is.
+fn signed_second(alloc: Global, rel: CRel, a: CExpr, b: CExpr) -> Result<CExpr, Memory>
+    ensures { IfOk result (λ r. expr_view r ≡ CompareShapes.truth_of rel (expr_view a) (Cast U64 (expr_view b))) }
+{
+    match c_tree::cast(alloc, CWord::U64, b) {
+        Ok(bits) => truth_of(alloc, rel, a, bits),
+        Err(error) => {
+            drop(a);
+            Err(error)
+        }
+    }
+}
+
 /// 1 where the relation holds between the words of signedness `s` in `x` and of signedness `t` in `y`, and else 0.
 pub fn compare_words(
     alloc: Global,
@@ -34,21 +62,14 @@ pub fn compare_words(
     let right = c_tree::variable(y);
     match (s, t) {
         (true, false) => {
-            let bits = c_tree::cast(alloc, CWord::U64, left)?;
-            let plain = truth_of(alloc, rel, bits, right)?;
-            let r = below_zero(alloc, x, c_tree::signed(holds_below(rel)), plain)?;
-            Ok(r)
+            let plain = signed_first(alloc, rel, left, right)?;
+            below_zero(alloc, x, c_tree::signed(holds_below(rel)), plain)
         }
         (false, true) => {
-            let bits = c_tree::cast(alloc, CWord::U64, right)?;
-            let plain = truth_of(alloc, rel, left, bits)?;
-            let r = below_zero(alloc, y, c_tree::signed(holds_above(rel)), plain)?;
-            Ok(r)
+            let plain = signed_second(alloc, rel, left, right)?;
+            below_zero(alloc, y, c_tree::signed(holds_above(rel)), plain)
         }
-        _ => {
-            let r = truth_of(alloc, rel, left, right)?;
-            Ok(r)
-        }
+        _ => truth_of(alloc, rel, left, right),
     }
 }
 
@@ -91,9 +112,14 @@ fn where_rest(
     requires { 1 ≤ k }
     ensures { IfOk result (λ r. expr_view r ≡ CompareShapes.where_rest s x k (expr_view some) (expr_view none)) }
 {
-    let rest = rest_at(alloc, s, x, k)?;
-    let r = choose_less(alloc, c_tree::unsigned(0), rest, some, none)?;
-    Ok(r)
+    match rest_at(alloc, s, x, k) {
+        Ok(rest) => choose_less(alloc, c_tree::unsigned(0), rest, some, none),
+        Err(error) => {
+            drop(some);
+            drop(none);
+            Err(error)
+        }
+    }
 }
 
 // The same for a number between the word in `x` and the next one, beside the word in `y`.
@@ -143,9 +169,13 @@ pub fn compare_floor(
         }
         CRel::Eq | CRel::Ne | CRel::Le | CRel::Gt => {
             let above = compare_above(alloc, rel, s, f, t, y)?;
-            let level = compare_words(alloc, rel, s, f, t, y)?;
-            let r = where_rest(alloc, s, x, k, above, level)?;
-            Ok(r)
+            match compare_words(alloc, rel, s, f, t, y) {
+                Ok(level) => where_rest(alloc, s, x, k, above, level),
+                Err(error) => {
+                    drop(above);
+                    Err(error)
+                }
+            }
         }
     }
 }

@@ -1,15 +1,17 @@
 //! Comparisons of two real values.
 
-ghost use Rattle.std.specs.Prelude.{◌≡◌, ◌≤◌, ◌^◌, IfOk};
-ghost use Rattle.c_tree.specs.View.{expr_view};
+ghost use Rattle.std.specs.Prelude.{◌≡◌, ◌≤◌, ◌+◌, ◌^◌, ◌∷◌, [], map, IfOk};
+ghost use Rattle.c_tree.specs.Tree.{Set};
+ghost use Rattle.c_tree.specs.View.{expr_view, stmt_view};
 ghost use Rattle.lower_scalar.specs.Part.{part_view, reach};
 ghost use Rattle.lower_op.specs.Arguments.{operand};
 ghost use Rattle.lower_op.specs.Comparisons.{Compares};
 ghost use Rattle.lower_op.specs.CompareShapes;
 
+use crate::casts::{and_set, two_sets};
 use crate::compared::{compare_floor, compare_words, floor_at};
 use crate::relations::turned;
-use c_tree::{CExpr, CPart, CRel};
+use c_tree::{CExpr, CPart, CRel, CStmt};
 use fi_quant::gap;
 use lower_scalar::word_for;
 use num_type::{Memory, NumType};
@@ -80,9 +82,39 @@ fn level_part(
 {
     let s = p.signed();
     let t = q.signed();
-    let value = compare_words(alloc, rel, s, fresh, t, fresh + 1)?;
-    let r = over_both(alloc, s, a, t, b, fresh, value)?;
-    Ok(r)
+    match compare_words(alloc, rel, s, fresh, t, fresh + 1) {
+        Ok(value) => over_both(alloc, s, a, t, b, fresh, value),
+        Err(error) => {
+            drop(a);
+            drop(b);
+            Err(error)
+        }
+    }
+}
+
+// The floor of the word in `x` divided by `2^k`, and the comparison of the quotient, whose floor stands in `f`, with the word in `y`.
+fn floor_and_value(
+    alloc: Global,
+    rel: CRel,
+    s: bool,
+    x: u32,
+    k: u32,
+    f: u32,
+    t: bool,
+    y: u32,
+) -> Result<(CExpr, CExpr), Memory>
+    requires { 1 ≤ k }
+    ensures floor { IfOk result (λ r. expr_view r.0 ≡ CompareShapes.floor_at s x k) }
+    ensures value { IfOk result (λ r. expr_view r.1 ≡ CompareShapes.compare_floor rel s x k f t y) }
+{
+    let floor = floor_at(alloc, s, x, k)?;
+    match compare_floor(alloc, rel, s, x, k, f, t, y) {
+        Ok(value) => Ok((floor, value)),
+        Err(error) => {
+            drop(floor);
+            Err(error)
+        }
+    }
 }
 
 // The part for an `a` that is finer by `k` bits.
@@ -102,10 +134,14 @@ fn left_finer_part(
 {
     let s = p.signed();
     let t = q.signed();
-    let floor = floor_at(alloc, s, fresh, k)?;
-    let value = compare_floor(alloc, rel, s, fresh, k, fresh + 2, t, fresh + 1)?;
-    let r = over_both_and(alloc, s, a, t, b, fresh, s, floor, value)?;
-    Ok(r)
+    match floor_and_value(alloc, rel, s, fresh, k, fresh + 2, t, fresh + 1) {
+        Ok((floor, value)) => over_both_and(alloc, s, a, t, b, fresh, s, floor, value),
+        Err(error) => {
+            drop(a);
+            drop(b);
+            Err(error)
+        }
+    }
 }
 
 // The part for a `b` that is finer by `k` bits: the relation is turned.
@@ -125,10 +161,14 @@ fn right_finer_part(
 {
     let s = p.signed();
     let t = q.signed();
-    let floor = floor_at(alloc, t, fresh + 1, k)?;
-    let value = compare_floor(alloc, turned(rel), t, fresh + 1, k, fresh + 2, s, fresh)?;
-    let r = over_both_and(alloc, s, a, t, b, fresh, t, floor, value)?;
-    Ok(r)
+    match floor_and_value(alloc, turned(rel), t, fresh + 1, k, fresh + 2, s, fresh) {
+        Ok((floor, value)) => over_both_and(alloc, s, a, t, b, fresh, t, floor, value),
+        Err(error) => {
+            drop(a);
+            drop(b);
+            Err(error)
+        }
+    }
 }
 
 // An expression over two variables that hold `a` and `b`.
@@ -144,17 +184,44 @@ fn over_both(
     requires { fresh ≤ 2 ^ 31 }
     ensures { IfOk result (λ r. part_view r ≡ CompareShapes.over_both s (expr_view a) t (expr_view b) fresh (expr_view value)) }
 {
-    let mut words = Items::new(alloc);
-    words.push(word_for(s))?;
-    words.push(word_for(t))?;
-    let mut before = Items::new(alloc);
-    before.push(c_tree::set(fresh, a))?;
-    before.push(c_tree::set(fresh + 1, b))?;
-    Ok(CPart {
-        words,
-        before,
-        value,
-    })
+    match two_sets(alloc, fresh, a, b) {
+        Ok(before) => match Items::from_slice(alloc, &[word_for(s), word_for(t)]) {
+            Ok(words) => Ok(CPart {
+                words,
+                before,
+                value,
+            }),
+            Err(error) => {
+                drop(before);
+                drop(value);
+                Err(Memory::from(error))
+            }
+        },
+        Err(error) => {
+            drop(value);
+            Err(error)
+        }
+    }
+}
+
+// Three variables take values.
+fn three_sets(
+    alloc: Global,
+    first: u32,
+    a: CExpr,
+    b: CExpr,
+    third: CExpr,
+) -> Result<Items<CStmt>, Memory>
+    requires { first ≤ 2 ^ 31 }
+    ensures { IfOk result (λ r. map stmt_view r ≡ Set first (expr_view a) ∷ Set (first + 1) (expr_view b) ∷ Set (first + 2) (expr_view third) ∷ []) }
+{
+    match two_sets(alloc, first, a, b) {
+        Ok(before) => and_set(before, first + 2, third),
+        Err(error) => {
+            drop(third);
+            Err(error)
+        }
+    }
 }
 
 // And over a third one of signedness `u`.
@@ -172,17 +239,22 @@ fn over_both_and(
     requires { fresh ≤ 2 ^ 31 }
     ensures { IfOk result (λ r. part_view r ≡ CompareShapes.over_both_and s (expr_view a) t (expr_view b) fresh u (expr_view third) (expr_view value)) }
 {
-    let mut words = Items::new(alloc);
-    words.push(word_for(s))?;
-    words.push(word_for(t))?;
-    words.push(word_for(u))?;
-    let mut before = Items::new(alloc);
-    before.push(c_tree::set(fresh, a))?;
-    before.push(c_tree::set(fresh + 1, b))?;
-    before.push(c_tree::set(fresh + 2, third))?;
-    Ok(CPart {
-        words,
-        before,
-        value,
-    })
+    match three_sets(alloc, fresh, a, b, third) {
+        Ok(before) => match Items::from_slice(alloc, &[word_for(s), word_for(t), word_for(u)]) {
+            Ok(words) => Ok(CPart {
+                words,
+                before,
+                value,
+            }),
+            Err(error) => {
+                drop(before);
+                drop(value);
+                Err(Memory::from(error))
+            }
+        },
+        Err(error) => {
+            drop(value);
+            Err(error)
+        }
+    }
 }

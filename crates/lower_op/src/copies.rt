@@ -112,6 +112,33 @@ fn copied_negation(
     Ok(r)
 }
 
+// The copies of `a` and `b`.
+fn both_copies(
+    a: &CExpr,
+    left: Result<CExpr, Memory>,
+    b: &CExpr,
+    right: Result<CExpr, Memory>,
+) -> Result<(CExpr, CExpr), Memory>
+    requires left { IfOk left (λ x. expr_view x ≡ expr_view a.now) }
+    requires right { IfOk right (λ x. expr_view x ≡ expr_view b.now) }
+    ensures left { IfOk result (λ r. expr_view r.0 ≡ expr_view a.now) }
+    ensures right { IfOk result (λ r. expr_view r.1 ≡ expr_view b.now) }
+{
+    match left {
+        Ok(x) => match right {
+            Ok(y) => Ok((x, y)),
+            Err(error) => {
+                drop(x);
+                Err(error)
+            }
+        },
+        Err(error) => {
+            drop(right);
+            Err(error)
+        }
+    }
+}
+
 // The copies of `a` and `b` under an operator.
 fn copied_binary(
     alloc: Global,
@@ -125,10 +152,8 @@ fn copied_binary(
     requires right { IfOk right (λ x. expr_view x ≡ expr_view b.now) }
     ensures { IfOk result (λ r. expr_view r ≡ Binary op (expr_view a.now) (expr_view b.now)) }
 {
-    let x = left?;
-    let y = right?;
-    let r = c_tree::binary(alloc, op, x, y)?;
-    Ok(r)
+    let (x, y) = both_copies(a, left, b, right)?;
+    c_tree::binary(alloc, op, x, y)
 }
 
 // The copies of two expressions under the copy of a test.
@@ -146,11 +171,20 @@ fn copied_choice(
     requires no { IfOk no (λ x. expr_view x ≡ expr_view b.now) }
     ensures { IfOk result (λ r. expr_view r ≡ Choose (test_view test.now) (expr_view a.now) (expr_view b.now)) }
 {
-    let t = tested?;
-    let x = yes?;
-    let y = no?;
-    let r = c_tree::choice(alloc, t, x, y)?;
-    Ok(r)
+    match both_copies(a, yes, b, no) {
+        Ok((x, y)) => match tested {
+            Ok(t) => c_tree::choice(alloc, t, x, y),
+            Err(error) => {
+                drop(x);
+                drop(y);
+                Err(error)
+            }
+        },
+        Err(error) => {
+            drop(tested);
+            Err(error)
+        }
+    }
 }
 
 // The relation between the copies of `a` and `b`.
@@ -165,7 +199,6 @@ fn copied_test(
     requires right { IfOk right (λ x. expr_view x ≡ expr_view b.now) }
     ensures { IfOk result (λ r. test_view r ≡ Compare rel (expr_view a.now) (expr_view b.now)) }
 {
-    let x = left?;
-    let y = right?;
+    let (x, y) = both_copies(a, left, b, right)?;
     Ok(c_tree::compare(rel, x, y))
 }

@@ -44,15 +44,36 @@ fn below_top(
 {
     let end = top(signed, word);
     let last = c_tree::binary(alloc, back, constant(signed, end), c_tree::variable(v.y))?;
+    match pair(alloc, op, v) {
+        Ok(inside) => choose_less(
+            alloc,
+            last,
+            c_tree::variable(v.x),
+            constant(signed, end),
+            inside,
+        ),
+        Err(error) => {
+            drop(last);
+            Err(error)
+        }
+    }
+}
+
+// The least number, and an operation on the two variables.
+fn least_or_pair(alloc: Global, op: COp, word: u32, v: Two) -> Result<(CExpr, CExpr), Memory>
+    requires some { 1 ≤ word }
+    requires most { word ≤ 64 }
+    ensures least { IfOk result (λ r. expr_view r.0 ≡ Shapes.least true word) }
+    ensures pair { IfOk result (λ r. expr_view r.1 ≡ Binary op (Var v.x) (Var v.y)) }
+{
     let inside = pair(alloc, op, v)?;
-    let r = choose_less(
-        alloc,
-        last,
-        c_tree::variable(v.x),
-        constant(signed, end),
-        inside,
-    )?;
-    Ok(r)
+    match least(alloc, true, word) {
+        Ok(low) => Ok((low, inside)),
+        Err(error) => {
+            drop(inside);
+            Err(error)
+        }
+    }
 }
 
 // `x op y`, or the least number where `x` is below `least back y`.
@@ -63,10 +84,13 @@ fn above_least(alloc: Global, op: COp, back: COp, word: u32, v: Two) -> Result<C
 {
     let edge = least(alloc, true, word)?;
     let first = c_tree::binary(alloc, back, edge, c_tree::variable(v.y))?;
-    let inside = pair(alloc, op, v)?;
-    let low = least(alloc, true, word)?;
-    let r = choose_less(alloc, c_tree::variable(v.x), first, low, inside)?;
-    Ok(r)
+    match least_or_pair(alloc, op, word, v) {
+        Ok((low, inside)) => choose_less(alloc, c_tree::variable(v.x), first, low, inside),
+        Err(error) => {
+            drop(first);
+            Err(error)
+        }
+    }
 }
 
 // `x + y`, brought to the nearest number of the range.
@@ -76,12 +100,15 @@ fn sum_saturated(alloc: Global, signed: bool, word: u32, v: Two) -> Result<CExpr
     ensures { IfOk result (λ r. expr_view r ≡ Operators.sum_saturated signed word v.x v.y) }
 {
     let high = below_top(alloc, COp::Add, COp::Sub, signed, word, v)?;
-    if signed {
-        let low = above_least(alloc, COp::Add, COp::Sub, word, v)?;
-        let r = below_zero(alloc, v.y, low, high)?;
-        Ok(r)
-    } else {
-        Ok(high)
+    if !signed {
+        return Ok(high);
+    }
+    match above_least(alloc, COp::Add, COp::Sub, word, v) {
+        Ok(low) => below_zero(alloc, v.y, low, high),
+        Err(error) => {
+            drop(high);
+            Err(error)
+        }
     }
 }
 
@@ -93,19 +120,22 @@ fn difference_saturated(alloc: Global, signed: bool, word: u32, v: Two) -> Resul
 {
     if signed {
         let high = below_top(alloc, COp::Sub, COp::Add, true, word, v)?;
-        let low = above_least(alloc, COp::Sub, COp::Add, word, v)?;
-        let r = below_zero(alloc, v.y, high, low)?;
-        Ok(r)
+        match above_least(alloc, COp::Sub, COp::Add, word, v) {
+            Ok(low) => below_zero(alloc, v.y, high, low),
+            Err(error) => {
+                drop(high);
+                Err(error)
+            }
+        }
     } else {
         let inside = pair(alloc, COp::Sub, v)?;
-        let r = choose_less(
+        choose_less(
             alloc,
             c_tree::variable(v.x),
             c_tree::variable(v.y),
             c_tree::unsigned(0),
             inside,
-        )?;
-        Ok(r)
+        )
     }
 }
 
@@ -114,9 +144,13 @@ fn pair_bits(alloc: Global, op: COp, signed: bool, v: Two) -> Result<CExpr, Memo
     ensures { IfOk result (λ r. expr_view r ≡ bits_pair op signed v.x v.y) }
 {
     let left = bits_of(alloc, signed, c_tree::variable(v.x))?;
-    let right = bits_of(alloc, signed, c_tree::variable(v.y))?;
-    let r = c_tree::binary(alloc, op, left, right)?;
-    Ok(r)
+    match bits_of(alloc, signed, c_tree::variable(v.y)) {
+        Ok(right) => c_tree::binary(alloc, op, left, right),
+        Err(error) => {
+            drop(left);
+            Err(error)
+        }
+    }
 }
 
 // Its low bits.
@@ -139,9 +173,30 @@ fn cut_below(alloc: Global, op: COp, word: u32, v: Two) -> Result<CExpr, Memory>
     let high = cut(alloc, op, true, word, v)?;
     let turned = c_tree::binary(alloc, COp::Sub, c_tree::unsigned(ones(word)), high)?;
     let size = c_tree::cast(alloc, CWord::I64, turned)?;
-    let minus = minus_one(alloc)?;
-    let r = c_tree::binary(alloc, COp::Sub, minus, size)?;
-    Ok(r)
+    match minus_one(alloc) {
+        Ok(minus) => c_tree::binary(alloc, COp::Sub, minus, size),
+        Err(error) => {
+            drop(size);
+            Err(error)
+        }
+    }
+}
+
+// Its low bits, and these as a negative number.
+fn cut_twice(alloc: Global, op: COp, word: u32, v: Two) -> Result<(CExpr, CExpr), Memory>
+    requires some { 1 ≤ word }
+    requires most { word ≤ 64 }
+    ensures bits { IfOk result (λ r. expr_view r.0 ≡ Shapes.cut word (bits_pair op true v.x v.y)) }
+    ensures below { IfOk result (λ r. expr_view r.1 ≡ Shapes.cut_below word (bits_pair op true v.x v.y)) }
+{
+    let below = cut_below(alloc, op, word, v)?;
+    match cut(alloc, op, true, word, v) {
+        Ok(tested) => Ok((tested, below)),
+        Err(error) => {
+            drop(below);
+            Err(error)
+        }
+    }
 }
 
 // An operation on the two words modulo `2^word`, as a number of the range.
@@ -151,20 +206,24 @@ fn wrap_pair(alloc: Global, op: COp, signed: bool, word: u32, v: Two) -> Result<
     ensures { IfOk result (λ r. expr_view r ≡ Shapes.wrapped signed word (bits_pair op signed v.x v.y)) }
 {
     let low = cut(alloc, op, signed, word, v)?;
-    if signed {
-        let same = c_tree::cast(alloc, CWord::I64, low)?;
-        let below = cut_below(alloc, op, word, v)?;
-        let tested = cut(alloc, op, true, word, v)?;
-        let r = choose_less(
-            alloc,
-            tested,
-            c_tree::unsigned(power(word - 1)),
-            same,
-            below,
-        )?;
-        Ok(r)
-    } else {
-        Ok(low)
+    if !signed {
+        return Ok(low);
+    }
+    let same = c_tree::cast(alloc, CWord::I64, low)?;
+    match cut_twice(alloc, op, word, v) {
+        Ok((tested, below)) => {
+            choose_less(
+                alloc,
+                tested,
+                c_tree::unsigned(power(word - 1)),
+                same,
+                below,
+            )
+        }
+        Err(error) => {
+            drop(same);
+            Err(error)
+        }
     }
 }
 

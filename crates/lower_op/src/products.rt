@@ -46,8 +46,17 @@ fn product_of(alloc: Global, p: NumType, a: CExpr, q: NumType, b: CExpr) -> Resu
     ensures { IfOk result (λ r. expr_view r ≡ Operators.product_of (operand p a) (operand q b)) }
 {
     let signed = p.signed() | q.signed();
-    let left = resigned(alloc, p.signed(), signed, a)?;
-    let right = resigned(alloc, q.signed(), signed, b)?;
-    let r = c_tree::binary(alloc, COp::Mul, left, right)?;
-    Ok(r)
+    match resigned(alloc, p.signed(), signed, a) {
+        Ok(left) => match resigned(alloc, q.signed(), signed, b) {
+            Ok(right) => c_tree::binary(alloc, COp::Mul, left, right),
+            Err(error) => {
+                drop(left);
+                Err(error)
+            }
+        },
+        Err(error) => {
+            drop(b);
+            Err(error)
+        }
+    }
 }

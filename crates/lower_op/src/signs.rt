@@ -2,8 +2,10 @@
 
 ghost use Rattle.std.specs.Prelude.{◌≡◌, ◌≤◌, IfOk};
 ghost use Rattle.num_type.specs.View.{type_of};
+ghost use Rattle.c_tree.specs.Tree.{Choose, Var, Signed};
 ghost use Rattle.c_tree.specs.View.{expr_view};
 ghost use Rattle.lower_scalar.specs.Part.{part_view, reach};
+ghost use Rattle.lower_scalar.specs.Shapes.{is_less};
 ghost use Rattle.lower_scalar.specs.Operators;
 ghost use Rattle.lower_scalar.specs.Operators.{Negates, TakesSign};
 
@@ -49,9 +51,13 @@ fn negated_part(
     ensures { IfOk result (λ r. part_view r ≡ Operators.negated_part action (type_of t) (expr_view e) fresh) }
 {
     if t.signed() {
-        let minus = turned(alloc, action, t.word(), fresh)?;
-        let r = over_one(alloc, true, e, fresh, minus)?;
-        Ok(r)
+        match turned(alloc, action, t.word(), fresh) {
+            Ok(minus) => over_one(alloc, true, e, fresh, minus),
+            Err(error) => {
+                drop(e);
+                Err(error)
+            }
+        }
     } else {
         let minus = turned_plain(alloc, action, t.word(), e)?;
         Ok(alone(alloc, minus))
@@ -69,13 +75,26 @@ fn absolute_part(
     ensures { IfOk result (λ r. part_view r ≡ Operators.absolute_part action (type_of t) (expr_view e) fresh) }
 {
     if t.signed() {
-        let minus = turned(alloc, action, t.word(), fresh)?;
-        let size = below_zero(alloc, fresh, minus, c_tree::variable(fresh))?;
-        let r = over_one(alloc, true, e, fresh, size)?;
-        Ok(r)
+        match size_of(alloc, action, t.word(), fresh) {
+            Ok(size) => over_one(alloc, true, e, fresh, size),
+            Err(error) => {
+                drop(e);
+                Err(error)
+            }
+        }
     } else {
         Ok(alone(alloc, e))
     }
+}
+
+// The number in `x` without its sign, of a signed type.
+fn size_of(alloc: Global, action: Overflow, word: u32, x: u32) -> Result<CExpr, Memory>
+    requires some { 1 ≤ word }
+    requires most { word ≤ 64 }
+    ensures { IfOk result (λ r. expr_view r ≡ Choose (is_less (Var x) (Signed 0)) (Operators.turned action word x) (Var x)) }
+{
+    let minus = turned(alloc, action, word, x)?;
+    below_zero(alloc, x, minus, c_tree::variable(x))
 }
 
 // What minus the least number in `x` becomes.
@@ -97,10 +116,16 @@ fn turned(alloc: Global, action: Overflow, word: u32, x: u32) -> Result<CExpr, M
     ensures { IfOk result (λ r. expr_view r ≡ Operators.turned action word x) }
 {
     let edge = c_tree::negation(alloc, c_tree::signed(top(true, word)))?;
-    let minus = c_tree::negation(alloc, c_tree::variable(x))?;
-    let least = turned_least(action, word, x);
-    let r = choose_less(alloc, c_tree::variable(x), edge, least, minus)?;
-    Ok(r)
+    match c_tree::negation(alloc, c_tree::variable(x)) {
+        Ok(minus) => {
+            let least = turned_least(action, word, x);
+            choose_less(alloc, c_tree::variable(x), edge, least, minus)
+        }
+        Err(error) => {
+            drop(edge);
+            Err(error)
+        }
+    }
 }
 
 // Minus an unsigned number.

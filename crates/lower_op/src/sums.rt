@@ -4,7 +4,9 @@ ghost use Rattle.std.specs.Prelude.{◌≡◌, ◌≤◌, ◌<◌, ◌^◌, ◌�
 ghost use Rattle.num_type.specs.Types.{IsWithin};
 ghost use Rattle.num_type.specs.View.{type_of};
 ghost use Rattle.fi_math.specs.Full;
+ghost use Rattle.c_tree.specs.Tree.{Cast};
 ghost use Rattle.c_tree.specs.View.{expr_view};
+ghost use Rattle.c_tree.specs.declared.tree.CWord.TheVariants.{I64};
 ghost use Rattle.lower_scalar.specs.Part.{part_view, reach};
 ghost use Rattle.lower_scalar.specs.Operators;
 ghost use Rattle.lower_scalar.specs.Operators.{Adds, Subtracts};
@@ -95,6 +97,35 @@ fn gap(high: i32, low: i32) -> u32
     (i64::from(high) - i64::from(low)) as u32
 }
 
+// Two operands at the fraction length and in the signedness of their sum.
+fn both_aligned(
+    alloc: Global,
+    full: NumType,
+    p: NumType,
+    a: CExpr,
+    q: NumType,
+    b: CExpr,
+) -> Result<(CExpr, CExpr), Memory>
+    requires is { type_of full ≡ Full.full_sum (type_of p) (type_of q) }
+    ensures left { IfOk result (λ r. expr_view r.0 ≡ Operators.aligned_of full.signed full.fraction (operand p a)) }
+    ensures right { IfOk result (λ r. expr_view r.1 ≡ Operators.aligned_of full.signed full.fraction (operand q b)) }
+{
+    let signed = full.signed();
+    match aligned_of(alloc, signed, full, p, a) {
+        Ok(left) => match aligned_of(alloc, signed, full, q, b) {
+            Ok(right) => Ok((left, right)),
+            Err(error) => {
+                drop(left);
+                Err(error)
+            }
+        },
+        Err(error) => {
+            drop(b);
+            Err(error)
+        }
+    }
+}
+
 // The exact sum, as a word of its full type.
 fn sum_of(
     alloc: Global,
@@ -107,11 +138,8 @@ fn sum_of(
     requires is { type_of full ≡ Full.full_sum (type_of p) (type_of q) }
     ensures { IfOk result (λ r. expr_view r ≡ Operators.sum_of (operand p a) (operand q b)) }
 {
-    let signed = full.signed();
-    let left = aligned_of(alloc, signed, full, p, a)?;
-    let right = aligned_of(alloc, signed, full, q, b)?;
-    let r = c_tree::binary(alloc, COp::Add, left, right)?;
-    Ok(r)
+    let (left, right) = both_aligned(alloc, full, p, a, q, b)?;
+    c_tree::binary(alloc, COp::Add, left, right)
 }
 
 // The exact difference, as an `int64_t`.
@@ -126,11 +154,28 @@ fn difference_of(
     requires is { type_of full ≡ Full.full_sum (type_of p) (type_of q) }
     ensures { IfOk result (λ r. expr_view r ≡ Operators.difference_of (operand p a) (operand q b)) }
 {
-    let signed = full.signed();
-    let left = aligned_of(alloc, signed, full, p, a)?;
-    let right = aligned_of(alloc, signed, full, q, b)?;
-    let r = minus(alloc, signed, left, right)?;
-    Ok(r)
+    let (left, right) = both_aligned(alloc, full, p, a, q, b)?;
+    minus(alloc, full.signed(), left, right)
+}
+
+// Two words as an `int64_t` each.
+fn both_cast(alloc: Global, left: CExpr, right: CExpr) -> Result<(CExpr, CExpr), Memory>
+    ensures left { IfOk result (λ r. expr_view r.0 ≡ Cast I64 (expr_view left)) }
+    ensures right { IfOk result (λ r. expr_view r.1 ≡ Cast I64 (expr_view right)) }
+{
+    match c_tree::cast(alloc, CWord::I64, left) {
+        Ok(first) => match c_tree::cast(alloc, CWord::I64, right) {
+            Ok(second) => Ok((first, second)),
+            Err(error) => {
+                drop(first);
+                Err(error)
+            }
+        },
+        Err(error) => {
+            drop(right);
+            Err(error)
+        }
+    }
 }
 
 // A difference of words of this signedness, as an `int64_t`; unsigned ones are below `2^63`.
@@ -141,9 +186,7 @@ fn minus(alloc: Global, signed: bool, left: CExpr, right: CExpr) -> Result<CExpr
         let r = c_tree::binary(alloc, COp::Sub, left, right)?;
         Ok(r)
     } else {
-        let first = c_tree::cast(alloc, CWord::I64, left)?;
-        let second = c_tree::cast(alloc, CWord::I64, right)?;
-        let r = c_tree::binary(alloc, COp::Sub, first, second)?;
-        Ok(r)
+        let (first, second) = both_cast(alloc, left, right)?;
+        c_tree::binary(alloc, COp::Sub, first, second)
     }
 }
