@@ -16,7 +16,7 @@ use Rattle.c_run.specs.Fit as run
 use Rattle.c_run.specs.Fit.{IsFit, AreFit}
 use Rattle.case_io.specs.Cases as case
 use Rattle.case_io.specs.Cases.{Range, kind_range, part_ranges, slot_ranges, input_ranges}
-use Rattle.batch_run.proofs.Boxes.{container_sign, container_bits}
+use Rattle.c_tree.proofs.Containers.{container_sign, container_bits}
 use Rattle.batch_run.proofs.Powers.{pow_mono, pow_pos}
 
 -- the range of a type lies in that of its container

@@ -1,4 +1,3 @@
 pub mod Inputs
 mod Cases
-mod Boxes
 mod Powers

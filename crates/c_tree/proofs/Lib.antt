@@ -1,4 +1,4 @@
-mod Containers
+pub mod Containers
 mod Count
 mod Deepest
 mod Within

@@ -6,6 +6,7 @@ mod array_names;
 mod interface;
 mod laws;
 mod make;
+mod names;
 mod program;
 mod size;
 mod tree;
@@ -20,6 +21,7 @@ pub use make::{
     binary, cast, choice, compare, counted, element, for_each, give_back, go_on, if_else, if_only,
     leave, negation, set, signed, store, truth, unsigned, variable, while_holds,
 };
+pub use names::container_text;
 pub use program::CProgram;
 pub use size::{block_tokens, expr_tokens, stmt_tokens, test_tokens};
 pub use tree::{

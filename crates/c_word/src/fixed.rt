@@ -6,7 +6,7 @@ ghost use Rattle.c_grammar.specs.Words as words;
 ghost use Rattle.c_word.specs.Fixed.{fixed_text};
 
 use c_grammar::{CKeyword, CMacro, CSign, CWordToken};
-use c_tree::{COp, CRel};
+use c_tree::{COp, CRel, container_text};
 use num_type::Container;
 
 /// The words that have the same text beside every interface.
@@ -56,21 +56,6 @@ pub(crate) static FIXED: [CWordToken; 44] = [
     CWordToken::Sign(CSign::Question),
     CWordToken::Sign(CSign::Assign),
 ];
-
-fn container_text(container: Container) -> &'static [u8]
-    ensures { result.now ≡ texts.container_text container }
-{
-    match container {
-        Container::I8 => b"int8_t",
-        Container::I16 => b"int16_t",
-        Container::I32 => b"int32_t",
-        Container::I64 => b"int64_t",
-        Container::U8 => b"uint8_t",
-        Container::U16 => b"uint16_t",
-        Container::U32 => b"uint32_t",
-        Container::U64 => b"uint64_t",
-    }
-}
 
 fn macro_text(name: CMacro) -> &'static [u8]
     ensures { result.now ≡ words.macro_name name }

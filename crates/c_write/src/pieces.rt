@@ -6,8 +6,8 @@ ghost use Rattle.c_tree.specs.Texts;
 ghost use Rattle.c_tree.specs.Texts.{op_text, rel_text, word_text, var_text, counter_text, array_text, read_text, store_text};
 ghost use Rattle.c_tree.specs.Layout.{constant_text, indent};
 
-use c_tree::{Arrays, CArray, COp, CRel, CWord, Counter, CounterKind};
-use num_type::{Container, Memory};
+use c_tree::{Arrays, CArray, COp, CRel, CWord, Counter, CounterKind, container_text};
+use num_type::Memory;
 
 /// These bytes at the end.
 pub fn put(out: &mut Vec<u8>, bytes: &[u8]) -> Result<(), Memory>
@@ -105,22 +105,6 @@ pub fn put_counter(out: &mut Vec<u8>, counter: Counter) -> Result<(), Memory>
 {
     put(out, letter_of(counter.kind))?;
     put_number(out, counter.number as u64)
-}
-
-/// The name of a container.
-pub fn container_text(c: Container) -> &'static [u8]
-    ensures { result.now ≡ Texts.container_text c }
-{
-    match c {
-        Container::I8 => b"int8_t",
-        Container::I16 => b"int16_t",
-        Container::I32 => b"int32_t",
-        Container::I64 => b"int64_t",
-        Container::U8 => b"uint8_t",
-        Container::U16 => b"uint16_t",
-        Container::U32 => b"uint32_t",
-        Container::U64 => b"uint64_t",
-    }
 }
 
 /// The name of an array, and nothing where there is none.

@@ -11,9 +11,9 @@ ghost use Rattle.c_tree.specs.Layout;
 ghost use Rattle.c_tree.specs.Layout.{layout, function_text, header_text, function_front, parameters_text, declared_text, comma_unless, local_text, zero_text, start_line, words_text, counters_text, declarations_text};
 
 use crate::interface::{put_include, put_interface};
-use crate::pieces::{container_text, letter_of, put, put_constant, put_number, put_var, put_word};
+use crate::pieces::{letter_of, put, put_constant, put_number, put_var, put_word};
 use crate::stmts::put_block;
-use c_tree::{Array, Arrays, CProgram, CTree, CWord, CounterKind};
+use c_tree::{Array, Arrays, CProgram, CTree, CWord, CounterKind, container_text};
 use num_type::Memory;
 use std::alloc::Global;
 

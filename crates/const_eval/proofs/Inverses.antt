@@ -4,7 +4,7 @@ use Rattle.std.specs.Prelude.{Option, Some, None, IsSome, IfSome, IfNone, ℤ, p
 use Rattle.std.proofs.lemmas.Int.{ints, clamps}
 use Rattle.std.proofs.lemmas.Nat.{mul-le, pow_pos}
 use Rattle.std.proofs.Math.IntN.{*ℤ_comm}
-use Rattle.num_type.specs.Constants.{Exact, IsSame, IsConstant, product_of, common}
+use Rattle.num_type.specs.Constants.{Exact, IsSame, IsConstant, IsReduced, product_of, common}
 use Rattle.num_type.specs.Precision.{whole}
 use Rattle.num_type.specs.View.{exact_of}
 use Rattle.num_type.specs.declared.dyadic.Dyadic.{Dyadic}
@@ -15,7 +15,7 @@ use Rattle.const_eval.proofs.Alike.{product_same, minus_times}
 use Rattle.const_eval.proofs.Powers.{power_same, odd_down, abs_mul}
 use Rattle.const_eval.proofs.Fives.{odd_divides}
 
-unit_times : (z w : ℤ) → IsUnit z → IsUnit w → IsUnit (z *ℤ w)
+pub unit_times : (z w : ℤ) → IsUnit z → IsUnit w → IsUnit (z *ℤ w)
 unit_times z w (One e) (One f) = One (λ i. e i *ℤ f i)
 unit_times z w (One e) (MinusOne f) = MinusOne (λ i. e i *ℤ f i)
 unit_times z w (MinusOne e) (One f) = MinusOne (λ i. e i *ℤ f i)
@@ -33,7 +33,7 @@ turned_exponent : (x : Exact) (n : ℕ) → (power_of (turned x) n).exponent +�
 turned_exponent x zero = refl
 turned_exponent x (suc n) = omega (arith, ints, turned_exponent x n)
 
-unit_power : (x : Exact) (n : ℕ) → IsUnit x.significand → IsUnit (power_of x n).significand
+pub unit_power : (x : Exact) (n : ℕ) → IsUnit x.significand → IsUnit (power_of x n).significand
 unit_power x zero u = One refl
 unit_power x (suc n) u = unit_times (power_of x n).significand x.significand (unit_power x n u) u
 
@@ -132,7 +132,8 @@ no_constant_inverse x n u none d k =
     none (constant_same (power_of (turned x) 1) (turned x) (first_power (turned x)) one)
 
 -- a number that is neither has none
-unit_from_size : (z : ℤ) → nat_abs z ≡ 1 → IsUnit z
+
+pub unit_from_size : (z : ℤ) → nat_abs z ≡ 1 → IsUnit z
 unit_from_size (pos a) e = One (ap pos e)
 unit_from_size (negsuc a) e = MinusOne (ap negsuc (let k : a ≡ 0 = omega (arith, e) in k))
 
@@ -140,21 +141,21 @@ size_one : (i n : ℕ) → 0 < n → 1 ≡ i * n → n ≡ 1
 size_one zero n some e = absurd (let z : 0 * n ≡ 0 = omega arith in omega (arith, e, z))
 size_one (suc i) n some e = omega (arith, e, mul-le 1 n (suc i) n (omega arith) (omega arith), some)
 
-pub no_inverse : (x : Dyadic) (n : ℕ) → (IsUnit x.m → ⊥) → NoPowerOf (exact_of x) (negsuc n)
-no_inverse x n none d k =
-    let q : ℤ = (power_of (exact_of x) n).significand in
-    let p : Exact = product_of (exact_of d) (power_of (exact_of x) (suc n)) in
+pub no_inverse : (x d : Exact) (n : ℕ) → IsReduced x → (nat_abs x.significand ≡ 1 → ⊥) → IsPowerOf x (negsuc n) d → ⊥
+no_inverse x d n form none k =
+    let q : ℤ = (power_of x n).significand in
+    let p : Exact = product_of d (power_of x (suc n)) in
     let s : ℤ = common p (whole (pos 1)) in
     let a : ℕ = nat_abs (p.exponent -ℤ s) in
     let b : ℕ = nat_abs (pos 0 -ℤ s) in
     let e : p.exponent ≡ s +ℤ pos a = omega (arith, ints, clamps) in
     let f : pos 0 ≡ s +ℤ pos b = omega (arith, ints, clamps) in
     let h : p.significand *ℤ pos (2 ^ a) ≡ pos 1 *ℤ pos (2 ^ b) = same_from s p (whole (pos 1)) a b e f k in
-    let size : nat_abs d.m * (nat_abs q * nat_abs x.m) * 2 ^ a ≡ 1 * 2 ^ b =
-    ap (λ (i : ℕ). i * 2 ^ a) (sym (abs_mul d.m (q *ℤ x.m) ∙ ap (λ (i : ℕ). nat_abs d.m * i) (abs_mul q x.m)))
+    let size : nat_abs d.significand * (nat_abs q * nat_abs x.significand) * 2 ^ a ≡ 1 * 2 ^ b =
+    ap (λ (i : ℕ). i * 2 ^ a) (sym (abs_mul d.significand (q *ℤ x.significand) ∙ ap (λ (i : ℕ). nat_abs d.significand * i) (abs_mul q x.significand)))
     ∙ sym (abs_times p.significand (2 ^ a))
     ∙ ap nat_abs h in
-    by q a b size (zero_or x.m)
+    by q a b size (zero_or x.significand)
   where
     nought : (d q m t : ℕ) → m ≡ 0 → d * (q * m) * t ≡ 0
     nought d q m t e = ap (λ (i : ℕ). d * (q * i) * t) e ∙ (let k : d * (q * 0) * t ≡ 0 = omega arith in k)
@@ -162,11 +163,16 @@ no_inverse x n none d k =
     moved : (d q m t : ℕ) → d * (q * m) * t ≡ d * q * t * m
     moved d q m t = omega arith
 
-    by : (q : ℤ) (a b : ℕ) → nat_abs d.m * (nat_abs q * nat_abs x.m) * 2 ^ a ≡ 1 * 2 ^ b → (x.m ≡ pos 0) ⊎ (x.m ≡ pos 0 → ⊥) → ⊥
-    by q a b size (inl z) = omega (arith, size, pow_pos b, nought (nat_abs d.m) (nat_abs q) (nat_abs x.m) (2 ^ a) (ap nat_abs z))
+    by : (q : ℤ) (a b : ℕ) → nat_abs d.significand * (nat_abs q * nat_abs x.significand) * 2 ^ a ≡ 1 * 2 ^ b → (x.significand ≡ pos 0) ⊎ (x.significand ≡ pos 0 → ⊥) → ⊥
+    by q a b size (inl z) = omega (arith, size, pow_pos b, nought (nat_abs d.significand) (nat_abs q) (nat_abs x.significand) (2 ^ a) (ap nat_abs z))
     by q a b size (inr some) =
-        let r = odd_divides (nat_abs x.m) 1 b (nat_abs d.m * nat_abs q * 2 ^ a) (x.odd some) (sym size ∙ moved (nat_abs d.m) (nat_abs q) (nat_abs x.m) (2 ^ a)) in
-        none (unit_from_size x.m (size_one r.0 (nat_abs x.m) (omega (arith, x.odd some)) r.1))
+        let odd : nat_abs x.significand % 2 ≡ 1 = form.odd some in
+        let r = odd_divides (nat_abs x.significand) 1 b (nat_abs d.significand * nat_abs q * 2 ^ a) odd (sym size ∙ moved (nat_abs d.significand) (nat_abs q) (nat_abs x.significand) (2 ^ a)) in
+        none (size_one r.0 (nat_abs x.significand) (omega (arith, odd)) r.1)
+
+pub no_dyadic_inverse : (x : Dyadic) (n : ℕ) → (IsUnit x.m → ⊥) → NoPowerOf (exact_of x) (negsuc n)
+no_dyadic_inverse x n none d k =
+    no_inverse (exact_of x) (exact_of d) n (record { zero_form = x.zero_form; odd = x.odd }) (λ e. none (unit_from_size x.m e)) k
 
 -- What the code makes of them
 
@@ -193,7 +199,7 @@ none_inverse x (negsuc n) below none = by (unit_or x.m)
   where
     by : IsUnit x.m ⊎ (IsUnit x.m → ⊥) → NoPowerOf (exact_of x) (negsuc n)
     by (inl u) = no_constant_inverse (exact_of x) n u (none u)
-    by (inr not_one) = no_inverse x n not_one
+    by (inr not_one) = no_dyadic_inverse x n not_one
 
 pub some_negative : (r : Option Dyadic) (x : Exact) (i : Dyadic) (n : ℕ) (z : ℤ) → z ≡ neg_ℤ (pos n) → z <ℤ pos 0 → IsUnit x.significand → IsSame (exact_of i) (turned x) → IfSome r (λ d. IsSame (exact_of d) (power_of (exact_of i) n)) → IfSome r (λ d. IsPowerOf x z (exact_of d))
 some_negative None x i n z e below u h k = tt

@@ -18,5 +18,6 @@ pub use constant::Const;
 pub use element_op::{ElementOp, elementwise};
 pub use exponent::whole_exponent;
 pub use literals::literal;
+pub use refusals::{mismatch, refused};
 pub use unary::fold_unary;
 pub use whole_power::power;

@@ -10,13 +10,13 @@ use num_type::{Memory, Stop};
 use shape_rules::{Shape, write_shape};
 use std::alloc::Global;
 
-/// The refusal of a literal or a result that is no constant, with the literal or the operator as shown.
-pub fn inexact(alloc: Global, shown: &[u8], at: Place) -> Stop<Refusal>
-    ensures { RefusesOnly result (λ r. IsRefusal LiteralInexact at shown.now r) }
+/// The refusal with this code at a place, with a copy of the shown text.
+pub fn refused(alloc: Global, code: Code, shown: &[u8], at: Place) -> Stop<Refusal>
+    ensures { RefusesOnly result (λ r. IsRefusal code at shown.now r) }
 {
     match Text::from_bytes(alloc, shown) {
         Ok(shown) => Stop::Refused(Refusal {
-            code: Code::LiteralInexact,
+            code,
             place: at,
             shown,
         }),
@@ -24,7 +24,14 @@ pub fn inexact(alloc: Global, shown: &[u8], at: Place) -> Stop<Refusal>
     }
 }
 
-/// The refusal of two shapes that don't fit.
+/// The refusal of a literal or a result that is no constant, with the literal or the operator as shown.
+pub fn inexact(alloc: Global, shown: &[u8], at: Place) -> Stop<Refusal>
+    ensures { RefusesOnly result (λ r. IsRefusal LiteralInexact at shown.now r) }
+{
+    refused(alloc, Code::LiteralInexact, shown, at)
+}
+
+/// The refusal of two shapes that don't fit, with both.
 pub fn mismatch(alloc: Global, a: Shape, b: Shape, at: Place) -> Stop<Refusal>
     ensures { RefusesOnly result (λ r. IsRefusal SizeMismatch at (shapes_text a b) r) }
 {

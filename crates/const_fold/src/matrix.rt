@@ -7,8 +7,8 @@ ghost use Rattle.const_eval.specs.Refusals.{RefusesOnly};
 ghost use Rattle.const_eval.specs.Values.{is_complex};
 ghost use Rattle.const_fold.specs.MatrixProducts.{entry, nought, sum_to, IsExactSum, AreExactSums, HasInner, IsMatrixProduct, IsNoMatrixProduct};
 
-use crate::refusals::{mismatch, refused, too_many};
-use const_eval::{Complex, Const};
+use crate::refusals::too_many;
+use const_eval::{Complex, Const, mismatch, refused};
 use fic_base::{Code, Place, Refusal};
 use num_type::{Dyadic, Stop};
 use shape_rules::Shape;

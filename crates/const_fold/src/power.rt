@@ -9,8 +9,7 @@ ghost use Rattle.const_eval.specs.Refusals.{RefusesOnly};
 ghost use Rattle.const_eval.specs.Values.{number_at, is_complex};
 ghost use Rattle.const_fold.specs.Exponents.{AreOperands, AreOnes, IsPowered, IsUnpowered};
 
-use crate::refusals::{mismatch, refused};
-use const_eval::{Const, power, whole_exponent};
+use const_eval::{Const, mismatch, power, refused, whole_exponent};
 use fic_base::{Code, Place, Refusal};
 use num_type::{Dyadic, Memory, Stop};
 use shape_rules::Shape;

@@ -14,7 +14,8 @@ use Rattle.const_rules.specs.OneForm.{reduced, constant_of, IsConstantWith}
 use Rattle.const_rules.specs.Folds.{added, subtracted, multiplied, negated, power, inverse_power}
 use Rattle.const_rules.proofs.Answers.{answer_as}
 use Rattle.const_rules.proofs.OneForm.{reduced_same, reduced_is, reduced_once, constant_of_is, constant_of_once}
-use Rattle.const_rules.proofs.Inverses.{negative_power, power_is_turned, unit_from_size, no_inverse, power_of_same}
+use Rattle.const_eval.proofs.Inverses.{unit_from_size, no_inverse}
+use Rattle.const_rules.proofs.Inverses.{negative_power, power_is_turned, power_of_same}
 
 -- Sums, differences and products
 

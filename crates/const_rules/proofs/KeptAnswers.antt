@@ -26,7 +26,8 @@ use Rattle.const_rules.specs.ComplexFolds.{complex_added, complex_subtracted, co
 use Rattle.const_rules.proofs.ComplexFolds.{complex_added_is, complex_subtracted_is, complex_multiplied_is}
 use Rattle.const_rules.proofs.OneForm.{reduced_same, reduced_is, constant_of_is}
 use Rattle.const_rules.proofs.Folds.{power_is}
-use Rattle.const_rules.proofs.Inverses.{power_is_turned, unit_from_size, no_inverse, power_of_same}
+use Rattle.const_eval.proofs.Inverses.{unit_from_size, no_inverse}
+use Rattle.const_rules.proofs.Inverses.{power_is_turned, power_of_same}
 use Rattle.const_rules.proofs.LiteralValues.{literal_of_is, same_value, trimmed_is}
 use Rattle.const_rules.proofs.BestFraction.{best_fraction_of_kept}
 

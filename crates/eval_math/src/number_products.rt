@@ -18,12 +18,12 @@ ghost use Rattle.eval_math.specs.Numbers.{complex_numbers};
 
 use crate::cells::{cells, product_shape};
 use crate::complex_numbers::{complex_elements, complex_value, is_complex_number};
-use crate::folds::{complex_fold, real_fold};
+use crate::folds::complex_fold;
 use crate::operand::either;
 use crate::places::{column_places, row_places};
 use const_eval::Complex;
 use eval_value::{NumberValue, Value, picked};
-use fi_rules::Work;
+use fi_rules::{Work, folded};
 use num_type::{Dyadic, Memory};
 use shape_rules::Shape;
 use std::alloc::Global;
@@ -129,9 +129,9 @@ fn real_total(xs: &[Dyadic], ys: &[Dyadic]) -> Option<Dyadic>
 fn real_step(sum: Dyadic, x: Dyadic, y: Dyadic) -> Option<Dyadic>
     ensures { option_map exact_of result ≡ and_then (folded work.Product (exact_of x) (exact_of y)) (λ z. folded work.Sum (exact_of sum) z) }
 {
-    match real_fold(Work::Product, x, y) {
+    match folded(Work::Product, x, y) {
         None => None,
-        Some(z) => real_fold(Work::Sum, sum, z),
+        Some(z) => folded(Work::Sum, sum, z),
     }
 }
 

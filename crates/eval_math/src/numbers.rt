@@ -13,12 +13,12 @@ ghost use Rattle.eval_math.specs.View.{IsMet, paired};
 
 use crate::complex_numbers::{complex_elements, complex_value, is_complex_number};
 use crate::elements::pairs;
-use crate::folds::{complex_fold, real_fold};
+use crate::folds::complex_fold;
 use crate::operand::either;
 use crate::shapes::common;
 use const_eval::Complex;
 use eval_value::{NumberValue, Value};
-use fi_rules::Work;
+use fi_rules::{Work, folded};
 use num_type::{Dyadic, Memory};
 use shape_rules::Shape;
 use std::alloc::Global;
@@ -122,7 +122,7 @@ fn real_folds(
 {
     let mut out = Vec::new(alloc);
     for p in met {
-        match real_fold(work, p.0, p.1) {
+        match folded(work, p.0, p.1) {
             None => return Ok(None),
             Some(z) => out.push(z)?,
         }

@@ -10,5 +10,6 @@ pub use fimath::{Fimath, Mode};
 pub use governing::{Differ, Governed, govern};
 pub use laws::{logarithm_is_least, same_is_equal, sum_holds_both};
 pub use types::{
-    NoType, PRODUCT_WORD_MAX, add_type, complex_product_type, product_type, sub_type, sum_type,
+    NoType, PRODUCT_WORD_MAX, add_type, aligned, complex_product_type, product_type, sub_type,
+    sum_type,
 };

@@ -169,8 +169,8 @@ fn full_sum_type(a: NumType, b: NumType) -> Result<NumType, NoType>
     within(WORD_MAX, signed, word, fraction)
 }
 
-/// The word length of an operand of a sum, at the fraction length of the sum.
-fn aligned(signed: bool, fraction: i32, t: NumType) -> u32
+/// The word length of an operand of a sum, in bits, at the fraction length of the sum, in a sum that is signed or not.
+pub fn aligned(signed: bool, fraction: i32, t: NumType) -> u32
     requires least { t.fraction ≤ℤ fraction }
     requires most { fraction ≤ℤ pos 256 }
     ensures value { result ≡ aligned_word signed fraction (type_of t) }

@@ -37,8 +37,8 @@ pub fn best_of(signed: bool, word: u32, c: Dyadic) -> i32
     best_fraction(signed, word, &[c])
 }
 
-// The stored integer of a constant in a type with another fraction length. None where the constant isn't exact there, or out of the range.
-fn stored(t: NumType, fraction: i32, c: Dyadic) -> Option<Int>
+/// The stored integer of a constant in a type with another fraction length. None where the constant isn't exact there, or out of the range.
+pub fn stored(t: NumType, fraction: i32, c: Dyadic) -> Option<Int>
     ensures { result ≡ stored_in (at_fraction (type_of t) fraction) (exact_of c) }
 {
     let m = c.significand();

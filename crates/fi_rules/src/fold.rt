@@ -43,9 +43,9 @@ fn checked(c: Option<Dyadic>) -> Result<Dyadic, Missing>
     }
 }
 
-// The exact result of an operation on two constants.
+/// The exact result of an operation on two constants. None where it is no constant, or the work is no sum, difference or product.
 #[tactic(auto, unfolding(crate::specs::Pairs::folded))]
-fn folded(work: Work, x: Dyadic, y: Dyadic) -> Option<Dyadic>
+pub fn folded(work: Work, x: Dyadic, y: Dyadic) -> Option<Dyadic>
     ensures { option_map exact_of result ≡ rule.folded work (exact_of x) (exact_of y) }
 {
     match work {

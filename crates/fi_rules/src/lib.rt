@@ -24,8 +24,10 @@ mod work;
 mod working;
 
 pub use asked::{Asked, Stated};
+pub use beside::stored;
 pub use built_ins::{BuiltIn, built_in};
 pub use calls::ask;
+pub use fold::folded;
 pub use granted::{Built, build};
 pub use missing::{Missing, Shown};
 pub use pairs::{Meeting, Operand, Side, Working, meet};

@@ -16,6 +16,7 @@ ghost use Rattle.lower_op.specs.Arguments.{operand};
 use crate::types::{difference_type, full_sum};
 use c_tree::{CExpr, COp, CPart, CWord};
 use fi_math::Fimath;
+use fi_quant::gap;
 use lower_scalar::{quantise_part, raise, resigned};
 use num_type::{Memory, NumType};
 use std::alloc::Global;
@@ -87,14 +88,6 @@ fn aligned_of(
     let same = resigned(alloc, p.signed(), signed, a)?;
     let r = raise(alloc, signed, by, same)?;
     Ok(r)
-}
-
-// How far one fraction length is above another that isn't greater, in bits.
-fn gap(high: i32, low: i32) -> u32
-    requires { low ≤ℤ high }
-    ensures { result ≡ nat_abs (high -ℤ low) }
-{
-    (i64::from(high) - i64::from(low)) as u32
 }
 
 // Two operands at the fraction length and in the signedness of their sum.

@@ -1,13 +1,13 @@
 //! Full types: those of exact products, sums and differences.
 
-ghost use Rattle.std.specs.Prelude.{◌≡◌, ◌≤◌, ◌≤ℤ◌, pos, IsTrue};
+ghost use Rattle.std.specs.Prelude.{◌≡◌, IsTrue};
 ghost use Rattle.num_type.specs.Types.{IsWithin};
 ghost use Rattle.num_type.specs.View.{type_of};
 ghost use Rattle.fi_math.specs.Full;
-ghost use Rattle.fi_math.specs.Full.{aligned_word};
 ghost use Rattle.lower_scalar.specs.Operators;
 ghost use Rattle.lower_op.specs.Arguments.{truth_num};
 
+use fi_math::aligned;
 use num_type::NumType;
 
 /// The full type of a product.
@@ -31,21 +31,6 @@ pub fn full_sum(p: NumType, q: NumType) -> NumType
     let fraction = p.fraction().max(q.fraction());
     let word = aligned(signed, fraction, p).max(aligned(signed, fraction, q)) + 1;
     made(signed, word, fraction)
-}
-
-// The word length of an operand of a sum, at the fraction length of the sum.
-fn aligned(signed: bool, fraction: i32, t: NumType) -> u32
-    requires least { t.fraction ≤ℤ fraction }
-    requires most { fraction ≤ℤ pos 256 }
-    ensures value { result ≡ aligned_word signed fraction (type_of t) }
-    ensures most { result ≤ 1000 }
-{
-    let more = (fraction - t.fraction()) as u32;
-    if signed && !t.signed() {
-        t.word() + 1 + more
-    } else {
-        t.word() + more
-    }
 }
 
 /// The type that holds an exact difference, by the full type of the sum.

@@ -26,7 +26,8 @@ use Rattle.scalar_program.specs.Lowered.{Input, Operand, Held, Names, Emitted, B
 use Rattle.scalar_program.specs.NameMaps.{with_type}
 use Rattle.scalar_program.proofs.Runs.{rest_of, some_of, some_is}
 use Rattle.scalar_program.proofs.Blocks.{block_adds}
-use Rattle.scalar_program.proofs.Starts.{nums_of, container_sign, IsFiOutput, output_is}
+use Rattle.c_tree.proofs.Containers.{container_sign}
+use Rattle.scalar_program.proofs.Starts.{nums_of, IsFiOutput, output_is}
 use Rattle.scalar_program.proofs.Forms.{HasType, IsGood, IsGoodAt, IsPlain, ArePlain, NamesGood, lowers_plain, read_depth}
 
 -- ---- what a header asks

@@ -17,6 +17,7 @@ use Rattle.c_tree.specs.declared.tree.CArray.TheVariants as array
 use Rattle.c_tree.specs.Tree.{Signed, Sta, Store}
 use Rattle.c_tree.specs.Names.{container_for, slot_arrays, input_fronts, output_fronts}
 use Rattle.c_tree.specs.Tokens.{sta_tokens, tokens}
+use Rattle.c_tree.proofs.Containers.{container_sign, container_bits}
 use Rattle.c_tree.specs.Outcome.{Outcome, Gives, ◌>>=◌, bind, choose, found_at, when◌then◌else◌, UndefinedAt}
 use Rattle.c_tree.specs.Meaning as Meaning
 use Rattle.c_tree.specs.Meaning.{Word, Cells, State, Flow, Went, value, run_block, kept, stored, with_cells, whole_of, then_run, wrapped, fits_signed}
@@ -34,43 +35,6 @@ use Rattle.scalar_program.proofs.Runs.{RunsTo, runs_nothing, runs_both, some_of,
 use Rattle.scalar_program.proofs.Operators.{fi_of}
 use Rattle.scalar_program.proofs.Expressions.{Sees}
 use Rattle.scalar_program.proofs.Blocks.{Covers, any_front, any_behind, sees_assigned}
-
--- ---- containers
-
-pub container_sign : (s : Bool) (w : ℕ) → is_signed_container (container_for s w) ≡ s
-container_sign true w = by (nat_le w 8) (nat_le w 16) (nat_le w 32)
-  where
-    by : (a b c : Bool) → is_signed_container (if a then I8 else (if b then I16 else (if c then I32 else I64))) ≡ true
-    by true b c = refl
-    by false true c = refl
-    by false false true = refl
-    by false false false = refl
-container_sign false w = by (nat_le w 8) (nat_le w 16) (nat_le w 32)
-  where
-    by : (a b c : Bool) → is_signed_container (if a then U8 else (if b then U16 else (if c then U32 else U64))) ≡ false
-    by true b c = refl
-    by false true c = refl
-    by false false true = refl
-    by false false false = refl
-
-le_of : (m n : ℕ) → nat_le m n ≡ true → m ≤ n
-le_of m n h = grind arith
-
-pub container_bits : (s : Bool) (w : ℕ) → w ≤ 64 → w ≤ bits_of (container_for s w)
-container_bits true w h = by (nat_le w 8) (nat_le w 16) (nat_le w 32) (le_of w 8) (le_of w 16) (le_of w 32)
-  where
-    by : (a b c : Bool) → (a ≡ true → w ≤ 8) → (b ≡ true → w ≤ 16) → (c ≡ true → w ≤ 32) → w ≤ bits_of (if a then I8 else (if b then I16 else (if c then I32 else I64)))
-    by true b c f g k = f refl
-    by false true c f g k = g refl
-    by false false true f g k = k refl
-    by false false false f g k = h
-container_bits false w h = by (nat_le w 8) (nat_le w 16) (nat_le w 32) (le_of w 8) (le_of w 16) (le_of w 32)
-  where
-    by : (a b c : Bool) → (a ≡ true → w ≤ 8) → (b ≡ true → w ≤ 16) → (c ≡ true → w ≤ 32) → w ≤ bits_of (if a then U8 else (if b then U16 else (if c then U32 else U64)))
-    by true b c f g k = f refl
-    by false true c f g k = g refl
-    by false false true f g k = k refl
-    by false false false f g k = h
 
 -- ---- inputs
 

@@ -19,6 +19,7 @@ value_or other (Passes x) = x
 value_or other (Refuses c p s) = other
 
 pub one_told : {A : Type 0} (x y : A) → Passes x ≡ Passes y → x ≡ y
+unfolding value_or
 one_told x y h = ap (value_or x) h
 
 one_more : (told : Told NumericType) (more : Told (List NumericType)) (ts : List NumericType) → bind told (λ t. bind more (λ us. Passes (t ∷ us))) ≡ Passes ts → (us : List NumericType) × (more ≡ Passes us) × (length ts ≡ suc (length us))

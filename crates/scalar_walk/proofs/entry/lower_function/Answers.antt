@@ -107,6 +107,7 @@ returns-clause-told c =
     )
 
 pub returns-clause-outputs : goal.returns-clause-outputs
+unfolding returns-clause-told
 returns-clause-outputs c =
     let f = func_view c.args.f.now in
     let ts = map type_of c.args.types.now in
