@@ -7,7 +7,7 @@ ghost use Rattle.c_tree.specs.Texts.{op_text, rel_text, word_text, var_text, cou
 ghost use Rattle.c_tree.specs.Layout.{constant_text, indent};
 
 use c_tree::{Arrays, CArray, COp, CRel, CWord, Counter, CounterKind, container_text};
-use num_type::Memory;
+use num_type::{Container, Memory};
 
 /// These bytes at the end.
 pub fn put(out: &mut Vec<u8>, bytes: &[u8]) -> Result<(), Memory>
