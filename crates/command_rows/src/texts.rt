@@ -2,43 +2,49 @@
 
 use std::alloc::Global;
 
-/// The bytes that a text of a row stands for: `\n`, `\t` and `\r` are a line feed, a tab and a carriage return, `\\` is a backslash, and
-/// `\x` with two hex digits is that byte.
+/// The bytes that a text of a row stands for: `\n`, `\t` and `\r` are a line feed, a tab and a carriage return, and `\x` with two hex
+/// digits is that byte.
 pub fn bytes_of(alloc: Global, text: &str) -> anyhow::Result<Vec<u8>> {
     let mut out = Vec::new(alloc);
-    let mut rest = text.as_bytes();
-    while let Some((first, more)) = rest.split_first() {
-        if *first != b'\\' {
-            out.push(*first)?;
-            rest = more;
-            continue;
+    let mut is_first = true;
+    for piece in text.split('\\') {
+        if is_first {
+            out.extend_from_slice(piece.as_bytes())?;
+        } else {
+            put_escaped(&mut out, piece.as_bytes())?;
         }
-        let Some((kind, behind)) = more.split_first() else {
-            anyhow::bail!("a backslash at the end");
-        };
-        rest = behind;
-        match *kind {
-            b'n' => out.push(b'\n')?,
-            b't' => out.push(b'\t')?,
-            b'r' => out.push(b'\r')?,
-            b'x' => {
-                let Some((byte, behind)) = hex_byte(rest) else {
-                    anyhow::bail!("no two hex digits");
-                };
-                out.push(byte)?;
-                rest = behind;
-            }
-            other => out.push(other)?,
-        }
+        is_first = false;
     }
     Ok(out)
+}
+
+// What stands behind a backslash.
+fn put_escaped(out: &mut Vec<u8>, piece: &[u8]) -> anyhow::Result<()> {
+    let Some((byte, rest)) = escaped(piece) else {
+        anyhow::bail!("no byte behind a backslash");
+    };
+    out.push(byte)?;
+    out.extend_from_slice(rest)?;
+    Ok(())
+}
+
+// The byte that a letter behind a backslash stands for, and what comes behind it.
+fn escaped(piece: &[u8]) -> Option<(u8, &[u8])> {
+    let (kind, rest) = piece.split_first()?;
+    match *kind {
+        b'n' => Some((b'\n', rest)),
+        b't' => Some((b'\t', rest)),
+        b'r' => Some((b'\r', rest)),
+        b'x' => hex_byte(rest),
+        _ => None,
+    }
 }
 
 // The byte that two hex digits are, and what stands behind them.
 fn hex_byte(text: &[u8]) -> Option<(u8, &[u8])> {
     let (high, more) = text.split_first()?;
     let (low, behind) = more.split_first()?;
-    Some((hex_digit(*high)? << 4 | hex_digit(*low)?, behind))
+    Some((hex_digit(*high)? * 16 + hex_digit(*low)?, behind))
 }
 
 fn hex_digit(digit: u8) -> Option<u8> {
