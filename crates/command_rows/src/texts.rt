@@ -1,5 +1,7 @@
 //! Texts of rows, in which a backslash begins what has no place in a line.
 
+ghost use Rattle.std.specs.Prelude.{◌<◌, IfSome};
+
 use std::alloc::Global;
 
 /// The bytes that a text of a row stands for: `\n`, `\t` and `\r` are a line feed, a tab and a carriage return, and `\x` with two hex
@@ -47,7 +49,10 @@ fn hex_byte(text: &[u8]) -> Option<(u8, &[u8])> {
     Some((hex_digit(*high)? * 16 + hex_digit(*low)?, behind))
 }
 
-fn hex_digit(digit: u8) -> Option<u8> {
+// The number that a hex digit is.
+fn hex_digit(digit: u8) -> Option<u8>
+    ensures { IfSome result (λ d. d < 16) }
+{
     match digit {
         b'0'..=b'9' => Some(digit - b'0'),
         b'a'..=b'f' => Some(digit - b'a' + 10),
