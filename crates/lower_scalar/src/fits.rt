@@ -1,11 +1,13 @@
 //! A word in a variable, brought into the range of a type.
 
-ghost use Rattle.std.specs.Prelude.{◌≡◌, ◌≤◌, ◌<◌, ◌^◌, IfOk, true, false};
+ghost use Rattle.std.specs.Prelude.{◌≡◌, ◌≤◌, ◌<◌, ◌-◌, ◌^◌, IfOk, true, false};
+ghost use Rattle.c_tree.specs.Tree.{Unsigned, Var, Cast, Choose};
+ghost use Rattle.c_tree.specs.declared.tree.CWord.TheVariants.{I64, U64};
 ghost use Rattle.c_tree.specs.View.{expr_view};
 ghost use Rattle.lower_scalar.specs.Shapes;
 
 use crate::numbers::{ones, power, top};
-use crate::signs::{below_minus, bits_of, choose_less, constant, minus_one, resigned};
+use crate::signs::{below_minus, bits_of, choose_less, constant, minus_one_less, resigned};
 use c_tree::{CExpr, COp, CWord};
 use num_type::{Memory, Overflow};
 use std::alloc::Global;
@@ -38,10 +40,42 @@ fn saturate_signed(alloc: Global, word: u32, x: u32) -> Result<CExpr, Memory>
         c_tree::signed(end),
         c_tree::variable(x),
     )?;
-    let edge = least(alloc, true, word)?;
-    let low = least(alloc, true, word)?;
-    let r = choose_less(alloc, c_tree::variable(x), edge, low, high)?;
+    let r = above_least(alloc, word, x, high)?;
     Ok(r)
+}
+
+// The least number of a signed range where the word in `x` is below it, and else another expression.
+fn above_least(alloc: Global, word: u32, x: u32, high: CExpr) -> Result<CExpr, Memory>
+    requires some { 1 ≤ word }
+    requires most { word ≤ 64 }
+    ensures { IfOk result (λ r. expr_view r ≡ Choose (Shapes.is_less (Var x) (Shapes.least true word)) (Shapes.least true word) (expr_view high)) }
+{
+    match two_least(alloc, word) {
+        Ok((edge, low)) => {
+            let r = choose_less(alloc, c_tree::variable(x), edge, low, high)?;
+            Ok(r)
+        }
+        Err(error) => {
+            drop(high);
+            Err(error)
+        }
+    }
+}
+
+// The least number of a signed range, twice.
+fn two_least(alloc: Global, word: u32) -> Result<(CExpr, CExpr), Memory>
+    requires some { 1 ≤ word }
+    requires most { word ≤ 64 }
+    ensures { IfOk result (λ r. (expr_view r.0 ≡ Shapes.least true word) × (expr_view r.1 ≡ Shapes.least true word)) }
+{
+    let edge = least(alloc, true, word)?;
+    match least(alloc, true, word) {
+        Ok(low) => Ok((edge, low)),
+        Err(error) => {
+            drop(edge);
+            Err(error)
+        }
+    }
 }
 
 // A signed word brought into an unsigned range.
@@ -50,16 +84,7 @@ fn saturate_to_unsigned(alloc: Global, word: u32, x: u32) -> Result<CExpr, Memor
     requires most { word ≤ 64 }
     ensures { IfOk result (λ r. expr_view r ≡ Shapes.saturated false word true x) }
 {
-    let end = top(false, word);
-    let tested = c_tree::cast(alloc, CWord::U64, c_tree::variable(x))?;
-    let taken = c_tree::cast(alloc, CWord::U64, c_tree::variable(x))?;
-    let high = choose_less(
-        alloc,
-        c_tree::unsigned(end),
-        tested,
-        c_tree::unsigned(end),
-        taken,
-    )?;
+    let high = below_top(alloc, word, x)?;
     let r = choose_less(
         alloc,
         c_tree::variable(x),
@@ -68,6 +93,32 @@ fn saturate_to_unsigned(alloc: Global, word: u32, x: u32) -> Result<CExpr, Memor
         high,
     )?;
     Ok(r)
+}
+
+// A signed word that isn't negative, or the greatest number of an unsigned range where the word is above it.
+fn below_top(alloc: Global, word: u32, x: u32) -> Result<CExpr, Memory>
+    requires some { 1 ≤ word }
+    requires most { word ≤ 64 }
+    ensures { IfOk result (λ r. expr_view r ≡ Choose (Shapes.is_less (Unsigned (Shapes.top false word)) (Cast U64 (Var x))) (Unsigned (Shapes.top false word)) (Cast U64 (Var x))) }
+{
+    let end = top(false, word);
+    let tested = c_tree::cast(alloc, CWord::U64, c_tree::variable(x))?;
+    match c_tree::cast(alloc, CWord::U64, c_tree::variable(x)) {
+        Ok(taken) => {
+            let r = choose_less(
+                alloc,
+                c_tree::unsigned(end),
+                tested,
+                c_tree::unsigned(end),
+                taken,
+            )?;
+            Ok(r)
+        }
+        Err(error) => {
+            drop(tested);
+            Err(error)
+        }
+    }
 }
 
 // An unsigned word brought into a range.
@@ -150,9 +201,47 @@ fn cut_below(alloc: Global, word: u32, source: Source) -> Result<CExpr, Memory>
     let high = cut(alloc, word, source)?;
     let turned = c_tree::binary(alloc, COp::Sub, c_tree::unsigned(ones(word)), high)?;
     let size = c_tree::cast(alloc, CWord::I64, turned)?;
-    let minus = minus_one(alloc)?;
-    let r = c_tree::binary(alloc, COp::Sub, minus, size)?;
+    let r = minus_one_less(alloc, size)?;
     Ok(r)
+}
+
+// The low bits of the source as they are.
+fn cut_same(alloc: Global, word: u32, source: Source) -> Result<CExpr, Memory>
+    requires some { 1 ≤ word }
+    requires most { word ≤ 64 }
+    requires near { source.by < 64 }
+    ensures { IfOk result (λ r. expr_view r ≡ Cast I64 (Shapes.cut word (Shapes.shifted_bits source.signed source.x source.by))) }
+{
+    let low = cut(alloc, word, source)?;
+    let r = c_tree::cast(alloc, CWord::I64, low)?;
+    Ok(r)
+}
+
+// The first of two expressions where the low bits of the source are below the middle of their range, and else the second.
+fn by_middle(
+    alloc: Global,
+    word: u32,
+    source: Source,
+    same: CExpr,
+    below: CExpr,
+) -> Result<CExpr, Memory>
+    requires some { 1 ≤ word }
+    requires most { word ≤ 64 }
+    requires near { source.by < 64 }
+    ensures { IfOk result (λ r. expr_view r ≡ Choose (Shapes.is_less (Shapes.cut word (Shapes.shifted_bits source.signed source.x source.by)) (Unsigned (2 ^ (word - 1)))) (expr_view same) (expr_view below)) }
+{
+    match cut(alloc, word, source) {
+        Ok(tested) => {
+            let half = c_tree::unsigned(power(word - 1));
+            let r = choose_less(alloc, tested, half, same, below)?;
+            Ok(r)
+        }
+        Err(error) => {
+            drop(same);
+            drop(below);
+            Err(error)
+        }
+    }
 }
 
 // The number of a signed range that the low bits of the source stand for.
@@ -162,18 +251,17 @@ fn wrap_signed(alloc: Global, word: u32, source: Source) -> Result<CExpr, Memory
     requires near { source.by < 64 }
     ensures { IfOk result (λ r. expr_view r ≡ Shapes.wrapped true word (Shapes.shifted_bits source.signed source.x source.by)) }
 {
-    let low = cut(alloc, word, source)?;
-    let same = c_tree::cast(alloc, CWord::I64, low)?;
-    let below = cut_below(alloc, word, source)?;
-    let tested = cut(alloc, word, source)?;
-    let r = choose_less(
-        alloc,
-        tested,
-        c_tree::unsigned(power(word - 1)),
-        same,
-        below,
-    )?;
-    Ok(r)
+    let same = cut_same(alloc, word, source)?;
+    match cut_below(alloc, word, source) {
+        Ok(below) => {
+            let r = by_middle(alloc, word, source, same, below)?;
+            Ok(r)
+        }
+        Err(error) => {
+            drop(same);
+            Err(error)
+        }
+    }
 }
 
 /// The number of a range that differs from the source by a multiple of `2^word`.

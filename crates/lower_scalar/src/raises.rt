@@ -1,6 +1,7 @@
 //! Words times a power of two.
 
 ghost use Rattle.std.specs.Prelude.{◌≡◌, ◌≤◌, ◌<◌, ◌-◌, ◌/◌, ◌^◌, IfOk, true, false};
+ghost use Rattle.c_tree.specs.Tree.{Var, Choose};
 ghost use Rattle.c_tree.specs.View.{expr_view};
 ghost use Rattle.lower_scalar.specs.Shapes;
 
@@ -80,6 +81,47 @@ fn below_top(
     Ok(r)
 }
 
+// The least word whose multiple is in the range, and the least number of the range.
+fn bottom_and_least(alloc: Global, to: bool, word: u32, n: u32) -> Result<(CExpr, CExpr), Memory>
+    requires some { 1 ≤ word }
+    requires most { word ≤ 64 }
+    ensures { IfOk result (λ r. (expr_view r.0 ≡ Shapes.bottom to word n) × (expr_view r.1 ≡ Shapes.least to word)) }
+{
+    let end = bottom(alloc, to, word, n)?;
+    match least(alloc, to, word) {
+        Ok(low) => Ok((end, low)),
+        Err(error) => {
+            drop(end);
+            Err(error)
+        }
+    }
+}
+
+// A multiple of a signed word brought to the least number of a range.
+fn above_bottom(
+    alloc: Global,
+    to: bool,
+    word: u32,
+    x: u32,
+    n: u32,
+    other: CExpr,
+) -> Result<CExpr, Memory>
+    requires some { 1 ≤ word }
+    requires most { word ≤ 64 }
+    ensures { IfOk result (λ r. expr_view r ≡ Choose (Shapes.is_less (Var x) (Shapes.bottom to word n)) (Shapes.least to word) (expr_view other)) }
+{
+    match bottom_and_least(alloc, to, word, n) {
+        Ok((end, low)) => {
+            let r = choose_less(alloc, c_tree::variable(x), end, low, other)?;
+            Ok(r)
+        }
+        Err(error) => {
+            drop(other);
+            Err(error)
+        }
+    }
+}
+
 // The number of a range that is nearest to the word in `x` times `2^n`.
 fn raise_saturate(
     alloc: Global,
@@ -95,9 +137,7 @@ fn raise_saturate(
 {
     let inside = raise_inside(alloc, to, signed, x, n)?;
     if signed {
-        let end = bottom(alloc, to, word, n)?;
-        let low = least(alloc, to, word)?;
-        let above = choose_less(alloc, c_tree::variable(x), end, low, inside)?;
+        let above = above_bottom(alloc, to, word, x, n, inside)?;
         let r = below_top(alloc, to, word, true, x, n, above)?;
         Ok(r)
     } else {

@@ -1,11 +1,13 @@
 //! A word in a variable, divided by a power of two and rounded.
 
 ghost use Rattle.std.specs.Prelude.{◌≡◌, ◌≤◌, ◌<◌, ◌^◌, IfOk, true, false};
+ghost use Rattle.c_tree.specs.Tree.{Unsigned, Var, Binary, Choose};
+ghost use Rattle.c_tree.specs.declared.tree.COp.TheVariants.{And};
 ghost use Rattle.c_tree.specs.View.{expr_view};
 ghost use Rattle.lower_scalar.specs.Shapes;
 
 use crate::numbers::{ones, power};
-use crate::signs::{below_zero, bits_of, choose_less, constant, minus_one};
+use crate::signs::{below_zero, bits_of, choose_less, constant, minus_one, minus_one_less};
 use c_tree::{CExpr, COp};
 use num_type::{Memory, Rounding};
 use std::alloc::Global;
@@ -16,9 +18,16 @@ pub fn floor_shift(alloc: Global, signed: bool, x: u32, k: u32) -> Result<CExpr,
 {
     let plain = shift_right(alloc, c_tree::variable(x), k)?;
     if signed {
-        let below = floor_below(alloc, x, k)?;
-        let r = below_zero(alloc, x, below, plain)?;
-        Ok(r)
+        match floor_below(alloc, x, k) {
+            Ok(below) => {
+                let r = below_zero(alloc, x, below, plain)?;
+                Ok(r)
+            }
+            Err(error) => {
+                drop(plain);
+                Err(error)
+            }
+        }
     } else {
         Ok(plain)
     }
@@ -31,8 +40,7 @@ fn floor_below(alloc: Global, x: u32, k: u32) -> Result<CExpr, Memory>
     let one = minus_one(alloc)?;
     let size = c_tree::binary(alloc, COp::Sub, one, c_tree::variable(x))?;
     let shifted = shift_right(alloc, size, k)?;
-    let again = minus_one(alloc)?;
-    let r = c_tree::binary(alloc, COp::Sub, again, shifted)?;
+    let r = minus_one_less(alloc, shifted)?;
     Ok(r)
 }
 
@@ -62,9 +70,16 @@ fn step_above(alloc: Global, signed: bool, x: u32, f: u32, k: u32, c: u64) -> Re
     ensures { IfOk result (λ r. expr_view r ≡ Shapes.step_above signed x f k c) }
 {
     let low = low_bits(alloc, signed, x, k)?;
-    let next = c_tree::binary(alloc, COp::Add, c_tree::variable(f), constant(signed, 1))?;
-    let r = choose_less(alloc, c_tree::unsigned(c), low, next, c_tree::variable(f))?;
-    Ok(r)
+    match c_tree::binary(alloc, COp::Add, c_tree::variable(f), constant(signed, 1)) {
+        Ok(next) => {
+            let r = choose_less(alloc, c_tree::unsigned(c), low, next, c_tree::variable(f))?;
+            Ok(r)
+        }
+        Err(error) => {
+            drop(low);
+            Err(error)
+        }
+    }
 }
 
 /// The word of this signedness in `x` divided by `2^k` and rounded, where `f` holds the floor. `k` is from 1 to 63 bits.
@@ -130,11 +145,50 @@ fn away_at_half(alloc: Global, signed: bool, x: u32, f: u32, k: u32) -> Result<C
     let half = power(k - 1);
     let at_half = step_above(alloc, signed, x, f, k, half - 1)?;
     if signed {
-        let past_half = step_above(alloc, true, x, f, k, half)?;
-        let r = below_zero(alloc, x, past_half, at_half)?;
-        Ok(r)
+        match step_above(alloc, true, x, f, k, half) {
+            Ok(past_half) => {
+                let r = below_zero(alloc, x, past_half, at_half)?;
+                Ok(r)
+            }
+            Err(error) => {
+                drop(at_half);
+                Err(error)
+            }
+        }
     } else {
         Ok(at_half)
+    }
+}
+
+// 1 where the word in `f` is odd, and else 0.
+fn lowest_bit(alloc: Global, signed: bool, f: u32) -> Result<CExpr, Memory>
+    ensures { IfOk result (λ r. expr_view r ≡ Binary And (Shapes.bits_of signed (Var f)) (Unsigned 1)) }
+{
+    let bits = bits_of(alloc, signed, c_tree::variable(f))?;
+    let r = c_tree::binary(alloc, COp::And, bits, c_tree::unsigned(1))?;
+    Ok(r)
+}
+
+// The first of two expressions where the word in `f` is odd, and else the second.
+fn where_odd(
+    alloc: Global,
+    signed: bool,
+    f: u32,
+    at_half: CExpr,
+    past_half: CExpr,
+) -> Result<CExpr, Memory>
+    ensures { IfOk result (λ r. expr_view r ≡ Choose (Shapes.is_less (Unsigned 0) (Binary And (Shapes.bits_of signed (Var f)) (Unsigned 1))) (expr_view at_half) (expr_view past_half)) }
+{
+    match lowest_bit(alloc, signed, f) {
+        Ok(odd) => {
+            let r = choose_less(alloc, c_tree::unsigned(0), odd, at_half, past_half)?;
+            Ok(r)
+        }
+        Err(error) => {
+            drop(at_half);
+            drop(past_half);
+            Err(error)
+        }
     }
 }
 
@@ -145,12 +199,17 @@ fn even_at_half(alloc: Global, signed: bool, x: u32, f: u32, k: u32) -> Result<C
     ensures { IfOk result (λ r. expr_view r ≡ Shapes.even_at_half signed x f k) }
 {
     let half = power(k - 1);
-    let bits = bits_of(alloc, signed, c_tree::variable(f))?;
-    let odd = c_tree::binary(alloc, COp::And, bits, c_tree::unsigned(1))?;
     let at_half = step_above(alloc, signed, x, f, k, half - 1)?;
-    let past_half = step_above(alloc, signed, x, f, k, half)?;
-    let r = choose_less(alloc, c_tree::unsigned(0), odd, at_half, past_half)?;
-    Ok(r)
+    match step_above(alloc, signed, x, f, k, half) {
+        Ok(past_half) => {
+            let r = where_odd(alloc, signed, f, at_half, past_half)?;
+            Ok(r)
+        }
+        Err(error) => {
+            drop(at_half);
+            Err(error)
+        }
+    }
 }
 
 // 1 where the word in `x` is above `c`, and else 0.
@@ -187,9 +246,16 @@ fn least_below(alloc: Global, x: u32, k: u32) -> Result<CExpr, Memory>
 {
     if k == 64 {
         let end = c_tree::negation(alloc, c_tree::signed(i64::MAX as u64))?;
-        let minus = minus_one(alloc)?;
-        let r = choose_less(alloc, c_tree::variable(x), end, minus, c_tree::signed(0))?;
-        Ok(r)
+        match minus_one(alloc) {
+            Ok(minus) => {
+                let r = choose_less(alloc, c_tree::variable(x), end, minus, c_tree::signed(0))?;
+                Ok(r)
+            }
+            Err(error) => {
+                drop(end);
+                Err(error)
+            }
+        }
     } else {
         Ok(c_tree::signed(0))
     }

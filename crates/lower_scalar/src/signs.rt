@@ -1,7 +1,8 @@
 //! Small expressions over words of either signedness.
 
 ghost use Rattle.std.specs.Prelude.{◌≡◌, IfOk, true};
-ghost use Rattle.c_tree.specs.Tree.{Choose};
+ghost use Rattle.c_tree.specs.Tree.{Binary, Choose};
+ghost use Rattle.c_tree.specs.declared.tree.COp.TheVariants.{Sub};
 ghost use Rattle.c_tree.specs.View.{expr_view};
 ghost use Rattle.lower_scalar.specs.Part;
 ghost use Rattle.lower_scalar.specs.Shapes;
@@ -34,6 +35,22 @@ pub fn minus_one(alloc: Global) -> Result<CExpr, Memory>
 {
     let r = c_tree::negation(alloc, c_tree::signed(1))?;
     Ok(r)
+}
+
+/// -1 less an expression.
+pub fn minus_one_less(alloc: Global, e: CExpr) -> Result<CExpr, Memory>
+    ensures { IfOk result (λ r. expr_view r ≡ Binary Sub Shapes.minus_one (expr_view e)) }
+{
+    match minus_one(alloc) {
+        Ok(minus) => {
+            let r = c_tree::binary(alloc, COp::Sub, minus, e)?;
+            Ok(r)
+        }
+        Err(error) => {
+            drop(e);
+            Err(error)
+        }
+    }
 }
 
 /// `-n - 1`.
