@@ -1,4 +1,3 @@
 pub mod Part
 pub mod Shapes
 pub mod Operators
-pub mod Beside

@@ -19,8 +19,7 @@ pub fn least(alloc: Global, to: bool, word: u32) -> Result<CExpr, Memory>
     ensures { IfOk result (λ r. expr_view r ≡ Shapes.least to word) }
 {
     if to {
-        let r = below_minus(alloc, power(word - 1) - 1)?;
-        Ok(r)
+        below_minus(alloc, power(word - 1) - 1)
     } else {
         Ok(c_tree::unsigned(0))
     }
@@ -40,8 +39,7 @@ fn saturate_signed(alloc: Global, word: u32, x: u32) -> Result<CExpr, Memory>
         c_tree::signed(end),
         c_tree::variable(x),
     )?;
-    let r = above_least(alloc, word, x, high)?;
-    Ok(r)
+    above_least(alloc, word, x, high)
 }
 
 // The least number of a signed range where the word in `x` is below it, and else another expression.
@@ -51,10 +49,7 @@ fn above_least(alloc: Global, word: u32, x: u32, high: CExpr) -> Result<CExpr, M
     ensures { IfOk result (λ r. expr_view r ≡ Choose (Shapes.is_less (Var x) (Shapes.least true word)) (Shapes.least true word) (expr_view high)) }
 {
     match two_least(alloc, word) {
-        Ok((edge, low)) => {
-            let r = choose_less(alloc, c_tree::variable(x), edge, low, high)?;
-            Ok(r)
-        }
+        Ok((edge, low)) => { choose_less(alloc, c_tree::variable(x), edge, low, high) }
         Err(error) => {
             drop(high);
             Err(error)
@@ -85,14 +80,13 @@ fn saturate_to_unsigned(alloc: Global, word: u32, x: u32) -> Result<CExpr, Memor
     ensures { IfOk result (λ r. expr_view r ≡ Shapes.saturated false word true x) }
 {
     let high = below_top(alloc, word, x)?;
-    let r = choose_less(
+    choose_less(
         alloc,
         c_tree::variable(x),
         c_tree::signed(0),
         c_tree::unsigned(0),
         high,
-    )?;
-    Ok(r)
+    )
 }
 
 // A signed word that isn't negative, or the greatest number of an unsigned range where the word is above it.
@@ -105,14 +99,13 @@ fn below_top(alloc: Global, word: u32, x: u32) -> Result<CExpr, Memory>
     let tested = c_tree::cast(alloc, CWord::U64, c_tree::variable(x))?;
     match c_tree::cast(alloc, CWord::U64, c_tree::variable(x)) {
         Ok(taken) => {
-            let r = choose_less(
+            choose_less(
                 alloc,
                 c_tree::unsigned(end),
                 tested,
                 c_tree::unsigned(end),
                 taken,
-            )?;
-            Ok(r)
+            )
         }
         Err(error) => {
             drop(tested);
@@ -129,14 +122,13 @@ fn saturate_unsigned(alloc: Global, to: bool, word: u32, x: u32) -> Result<CExpr
 {
     let end = top(to, word);
     let same = resigned(alloc, false, to, c_tree::variable(x))?;
-    let r = choose_less(
+    choose_less(
         alloc,
         c_tree::unsigned(end),
         c_tree::variable(x),
         constant(to, end),
         same,
-    )?;
-    Ok(r)
+    )
 }
 
 /// The number of a range that is nearest to the word of signedness `signed` in `x`.
@@ -146,14 +138,11 @@ pub fn saturate(alloc: Global, to: bool, word: u32, signed: bool, x: u32) -> Res
     ensures { IfOk result (λ r. expr_view r ≡ Shapes.saturated to word signed x) }
 {
     if !signed {
-        let r = saturate_unsigned(alloc, to, word, x)?;
-        Ok(r)
+        saturate_unsigned(alloc, to, word, x)
     } else if to {
-        let r = saturate_signed(alloc, word, x)?;
-        Ok(r)
+        saturate_signed(alloc, word, x)
     } else {
-        let r = saturate_to_unsigned(alloc, word, x)?;
-        Ok(r)
+        saturate_to_unsigned(alloc, word, x)
     }
 }
 
@@ -174,8 +163,7 @@ fn source_bits(alloc: Global, source: Source) -> Result<CExpr, Memory>
     if source.by == 0 {
         Ok(bits)
     } else {
-        let r = c_tree::binary(alloc, COp::Mul, bits, c_tree::unsigned(power(source.by)))?;
-        Ok(r)
+        c_tree::binary(alloc, COp::Mul, bits, c_tree::unsigned(power(source.by)))
     }
 }
 
@@ -187,8 +175,7 @@ fn cut(alloc: Global, word: u32, source: Source) -> Result<CExpr, Memory>
     ensures { IfOk result (λ r. expr_view r ≡ Shapes.cut word (Shapes.shifted_bits source.signed source.x source.by)) }
 {
     let bits = source_bits(alloc, source)?;
-    let r = c_tree::binary(alloc, COp::And, bits, c_tree::unsigned(ones(word)))?;
-    Ok(r)
+    c_tree::binary(alloc, COp::And, bits, c_tree::unsigned(ones(word)))
 }
 
 // The low bits of the source as a negative number.
@@ -201,8 +188,7 @@ fn cut_below(alloc: Global, word: u32, source: Source) -> Result<CExpr, Memory>
     let high = cut(alloc, word, source)?;
     let turned = c_tree::binary(alloc, COp::Sub, c_tree::unsigned(ones(word)), high)?;
     let size = c_tree::cast(alloc, CWord::I64, turned)?;
-    let r = minus_one_less(alloc, size)?;
-    Ok(r)
+    minus_one_less(alloc, size)
 }
 
 // The low bits of the source as they are.
@@ -213,8 +199,7 @@ fn cut_same(alloc: Global, word: u32, source: Source) -> Result<CExpr, Memory>
     ensures { IfOk result (λ r. expr_view r ≡ Cast I64 (Shapes.cut word (Shapes.shifted_bits source.signed source.x source.by))) }
 {
     let low = cut(alloc, word, source)?;
-    let r = c_tree::cast(alloc, CWord::I64, low)?;
-    Ok(r)
+    c_tree::cast(alloc, CWord::I64, low)
 }
 
 // The first of two expressions where the low bits of the source are below the middle of their range, and else the second.
@@ -233,8 +218,7 @@ fn by_middle(
     match cut(alloc, word, source) {
         Ok(tested) => {
             let half = c_tree::unsigned(power(word - 1));
-            let r = choose_less(alloc, tested, half, same, below)?;
-            Ok(r)
+            choose_less(alloc, tested, half, same, below)
         }
         Err(error) => {
             drop(same);
@@ -253,10 +237,7 @@ fn wrap_signed(alloc: Global, word: u32, source: Source) -> Result<CExpr, Memory
 {
     let same = cut_same(alloc, word, source)?;
     match cut_below(alloc, word, source) {
-        Ok(below) => {
-            let r = by_middle(alloc, word, source, same, below)?;
-            Ok(r)
-        }
+        Ok(below) => { by_middle(alloc, word, source, same, below) }
         Err(error) => {
             drop(same);
             Err(error)
@@ -272,11 +253,9 @@ pub fn wrap(alloc: Global, to: bool, word: u32, source: Source) -> Result<CExpr,
     ensures { IfOk result (λ r. expr_view r ≡ Shapes.wrapped to word (Shapes.shifted_bits source.signed source.x source.by)) }
 {
     if to {
-        let r = wrap_signed(alloc, word, source)?;
-        Ok(r)
+        wrap_signed(alloc, word, source)
     } else {
-        let r = cut(alloc, word, source)?;
-        Ok(r)
+        cut(alloc, word, source)
     }
 }
 
@@ -295,13 +274,7 @@ pub fn fit(
     ensures { IfOk result (λ r. expr_view r ≡ Shapes.fitted action to word signed x) }
 {
     match action {
-        Overflow::Saturate => {
-            let r = saturate(alloc, to, word, signed, x)?;
-            Ok(r)
-        }
-        Overflow::Wrap => {
-            let r = wrap(alloc, to, word, Source { signed, x, by: 0 })?;
-            Ok(r)
-        }
+        Overflow::Saturate => { saturate(alloc, to, word, signed, x) }
+        Overflow::Wrap => { wrap(alloc, to, word, Source { signed, x, by: 0 }) }
     }
 }

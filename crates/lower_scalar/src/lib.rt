@@ -1,7 +1,6 @@
 //! C expressions that compute operations on fixed-point numbers exactly and reach nothing undefined.
 #![tactic(auto)]
 
-mod beside;
 mod fits;
 mod numbers;
 mod parts;

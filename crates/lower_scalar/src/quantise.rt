@@ -6,7 +6,6 @@ ghost use Rattle.c_tree.specs.View.{expr_view};
 ghost use Rattle.lower_scalar.specs.Part.{part_view, reach, Quantises};
 ghost use Rattle.lower_scalar.specs.Shapes;
 
-use crate::beside::beside;
 use crate::fits::fit;
 use crate::numbers::gap;
 use crate::parts::{alone, over_one, over_three, over_two};
@@ -75,18 +74,23 @@ fn raised_part(
     ensures { IfOk result (λ p. part_view p ≡ Shapes.raised_part action (type_of t) (type_of from) (expr_view e) n fresh) }
 {
     if holds_raised(t.signed(), t.word(), from.signed(), from.word(), n) {
-        let p = raised_alone(alloc, t, from, e, n)?;
-        Ok(p)
+        raised_alone(alloc, t, from, e, n)
     } else if n == 0 {
-        let value = fit(alloc, action, t.signed(), t.word(), from.signed(), fresh);
-        let (value, e) = beside(value, e)?;
-        let p = over_one(alloc, from.signed(), e, fresh, value)?;
-        Ok(p)
+        match fit(alloc, action, t.signed(), t.word(), from.signed(), fresh) {
+            Ok(value) => over_one(alloc, from.signed(), e, fresh, value),
+            Err(error) => {
+                drop(e);
+                Err(error)
+            }
+        }
     } else {
-        let value = raise_fit(alloc, action, t.signed(), t.word(), from.signed(), fresh, n);
-        let (value, e) = beside(value, e)?;
-        let p = over_one(alloc, from.signed(), e, fresh, value)?;
-        Ok(p)
+        match raise_fit(alloc, action, t.signed(), t.word(), from.signed(), fresh, n) {
+            Ok(value) => over_one(alloc, from.signed(), e, fresh, value),
+            Err(error) => {
+                drop(e);
+                Err(error)
+            }
+        }
     }
 }
 
@@ -116,20 +120,97 @@ fn lowered_part(
     requires some { 1 ≤ k }
     ensures { IfOk result (λ p. part_view p ≡ Shapes.lowered_part method action (type_of t) (type_of from) (expr_view e) k fresh) }
 {
-    let signed = from.signed();
     if k < 64 {
-        let (floor, e) = beside(floor_shift(alloc, signed, fresh, k), e)?;
-        let rounded = round_shift(alloc, method, signed, fresh, fresh + 1, k);
-        let (rounded, (floor, e)) = beside(rounded, (floor, e))?;
-        let value = fit(alloc, action, t.signed(), t.word(), signed, fresh + 2);
-        let (value, (rounded, (floor, e))) = beside(value, (rounded, (floor, e)))?;
-        let p = over_three(alloc, signed, e, fresh, floor, rounded, value)?;
-        Ok(p)
+        near_part(alloc, t, method, action, from.signed(), e, k, fresh)
     } else {
-        let (rounded, e) = beside(round_far(alloc, method, signed, fresh, k), e)?;
-        let value = fit(alloc, action, t.signed(), t.word(), signed, fresh + 1);
-        let (value, (rounded, e)) = beside(value, (rounded, e))?;
-        let p = over_two(alloc, signed, e, fresh, rounded, value)?;
-        Ok(p)
+        far_part(alloc, t, method, action, from.signed(), e, k, fresh)
+    }
+}
+
+// The floor of the word in `fresh`, and the word rounded, where the floor stands in `fresh + 1`.
+fn floor_and_rounded(
+    alloc: Global,
+    method: Rounding,
+    signed: bool,
+    k: u32,
+    fresh: u32,
+) -> Result<(CExpr, CExpr), Memory>
+    requires room { fresh ≤ 2 ^ 31 + 2 ^ 30 }
+    requires some { 1 ≤ k }
+    requires most { k < 64 }
+    ensures { IfOk result (λ r. (expr_view r.0 ≡ Shapes.floor_shift signed fresh k) × (expr_view r.1 ≡ Shapes.round_shift method signed fresh (fresh + 1) k)) }
+{
+    let floor = floor_shift(alloc, signed, fresh, k)?;
+    match round_shift(alloc, method, signed, fresh, fresh + 1, k) {
+        Ok(rounded) => Ok((floor, rounded)),
+        Err(error) => {
+            drop(floor);
+            Err(error)
+        }
+    }
+}
+
+// The part where fewer than 64 bits are dropped from a word of this signedness.
+fn near_part(
+    alloc: Global,
+    t: NumType,
+    method: Rounding,
+    action: Overflow,
+    signed: bool,
+    e: CExpr,
+    k: u32,
+    fresh: u32,
+) -> Result<CPart, Memory>
+    requires room { fresh ≤ 2 ^ 31 + 2 ^ 30 }
+    requires some { 1 ≤ k }
+    requires most { k < 64 }
+    ensures { IfOk result (λ p. part_view p ≡ Shapes.over_three signed (expr_view e) fresh (Shapes.floor_shift signed fresh k) (Shapes.round_shift method signed fresh (fresh + 1) k) (Shapes.fitted action t.signed t.word signed (fresh + 2))) }
+{
+    match floor_and_rounded(alloc, method, signed, k, fresh) {
+        Ok((floor, rounded)) => {
+            match fit(alloc, action, t.signed(), t.word(), signed, fresh + 2) {
+                Ok(value) => over_three(alloc, signed, e, fresh, floor, rounded, value),
+                Err(error) => {
+                    drop(e);
+                    drop(floor);
+                    drop(rounded);
+                    Err(error)
+                }
+            }
+        }
+        Err(error) => {
+            drop(e);
+            Err(error)
+        }
+    }
+}
+
+// The part where 64 bits or more are dropped.
+fn far_part(
+    alloc: Global,
+    t: NumType,
+    method: Rounding,
+    action: Overflow,
+    signed: bool,
+    e: CExpr,
+    k: u32,
+    fresh: u32,
+) -> Result<CPart, Memory>
+    requires room { fresh ≤ 2 ^ 31 + 2 ^ 30 }
+    ensures { IfOk result (λ p. part_view p ≡ Shapes.over_two signed (expr_view e) fresh (Shapes.round_far method signed fresh k) (Shapes.fitted action t.signed t.word signed (fresh + 1))) }
+{
+    match round_far(alloc, method, signed, fresh, k) {
+        Ok(rounded) => match fit(alloc, action, t.signed(), t.word(), signed, fresh + 1) {
+            Ok(value) => over_two(alloc, signed, e, fresh, rounded, value),
+            Err(error) => {
+                drop(e);
+                drop(rounded);
+                Err(error)
+            }
+        },
+        Err(error) => {
+            drop(e);
+            Err(error)
+        }
     }
 }

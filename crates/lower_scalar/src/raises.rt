@@ -21,11 +21,9 @@ pub fn raise(alloc: Global, signed: bool, n: u32, e: CExpr) -> Result<CExpr, Mem
         Ok(e)
     } else if signed && n == 63 {
         let half = c_tree::binary(alloc, COp::Mul, e, c_tree::signed(1 << 62))?;
-        let r = c_tree::binary(alloc, COp::Mul, half, c_tree::signed(2))?;
-        Ok(r)
+        c_tree::binary(alloc, COp::Mul, half, c_tree::signed(2))
     } else {
-        let r = c_tree::binary(alloc, COp::Mul, e, constant(signed, power(n)))?;
-        Ok(r)
+        c_tree::binary(alloc, COp::Mul, e, constant(signed, power(n)))
     }
 }
 
@@ -35,8 +33,7 @@ fn raise_inside(alloc: Global, to: bool, signed: bool, x: u32, n: u32) -> Result
 {
     if n < 64 {
         let same = resigned(alloc, signed, to, c_tree::variable(x))?;
-        let r = raise(alloc, to, n, same)?;
-        Ok(r)
+        raise(alloc, to, n, same)
     } else {
         Ok(constant(to, 0))
     }
@@ -49,8 +46,7 @@ fn bottom(alloc: Global, to: bool, word: u32, n: u32) -> Result<CExpr, Memory>
     ensures { IfOk result (λ r. expr_view r ≡ Shapes.bottom to word n) }
 {
     if to {
-        let r = c_tree::negation(alloc, c_tree::signed(shifted(power(word - 1), n)))?;
-        Ok(r)
+        c_tree::negation(alloc, c_tree::signed(shifted(power(word - 1), n)))
     } else {
         Ok(c_tree::signed(0))
     }
@@ -71,14 +67,13 @@ fn below_top(
     ensures { IfOk result (λ r. expr_view r ≡ Shapes.below_top to word signed x n (expr_view other)) }
 {
     let end = top(to, word);
-    let r = choose_less(
+    choose_less(
         alloc,
         constant(signed, shifted(end, n)),
         c_tree::variable(x),
         constant(to, end),
         other,
-    )?;
-    Ok(r)
+    )
 }
 
 // The least word whose multiple is in the range, and the least number of the range.
@@ -111,10 +106,7 @@ fn above_bottom(
     ensures { IfOk result (λ r. expr_view r ≡ Choose (Shapes.is_less (Var x) (Shapes.bottom to word n)) (Shapes.least to word) (expr_view other)) }
 {
     match bottom_and_least(alloc, to, word, n) {
-        Ok((end, low)) => {
-            let r = choose_less(alloc, c_tree::variable(x), end, low, other)?;
-            Ok(r)
-        }
+        Ok((end, low)) => { choose_less(alloc, c_tree::variable(x), end, low, other) }
         Err(error) => {
             drop(other);
             Err(error)
@@ -138,11 +130,9 @@ fn raise_saturate(
     let inside = raise_inside(alloc, to, signed, x, n)?;
     if signed {
         let above = above_bottom(alloc, to, word, x, n, inside)?;
-        let r = below_top(alloc, to, word, true, x, n, above)?;
-        Ok(r)
+        below_top(alloc, to, word, true, x, n, above)
     } else {
-        let r = below_top(alloc, to, word, false, x, n, inside)?;
-        Ok(r)
+        below_top(alloc, to, word, false, x, n, inside)
     }
 }
 
@@ -160,8 +150,7 @@ fn raise_wrap(
     ensures { IfOk result (λ r. expr_view r ≡ Shapes.raised_wrapped to word signed x n) }
 {
     if n < 64 {
-        let r = wrap(alloc, to, word, Source { signed, x, by: n })?;
-        Ok(r)
+        wrap(alloc, to, word, Source { signed, x, by: n })
     } else {
         Ok(constant(to, 0))
     }
@@ -183,14 +172,8 @@ pub fn raise_fit(
     ensures { IfOk result (λ r. expr_view r ≡ Shapes.raised_fitted action to word signed x n) }
 {
     match action {
-        Overflow::Saturate => {
-            let r = raise_saturate(alloc, to, word, signed, x, n)?;
-            Ok(r)
-        }
-        Overflow::Wrap => {
-            let r = raise_wrap(alloc, to, word, signed, x, n)?;
-            Ok(r)
-        }
+        Overflow::Saturate => { raise_saturate(alloc, to, word, signed, x, n) }
+        Overflow::Wrap => { raise_wrap(alloc, to, word, signed, x, n) }
     }
 }
 

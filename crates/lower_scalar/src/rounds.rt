@@ -19,10 +19,7 @@ pub fn floor_shift(alloc: Global, signed: bool, x: u32, k: u32) -> Result<CExpr,
     let plain = shift_right(alloc, c_tree::variable(x), k)?;
     if signed {
         match floor_below(alloc, x, k) {
-            Ok(below) => {
-                let r = below_zero(alloc, x, below, plain)?;
-                Ok(r)
-            }
+            Ok(below) => { below_zero(alloc, x, below, plain) }
             Err(error) => {
                 drop(plain);
                 Err(error)
@@ -40,16 +37,14 @@ fn floor_below(alloc: Global, x: u32, k: u32) -> Result<CExpr, Memory>
     let one = minus_one(alloc)?;
     let size = c_tree::binary(alloc, COp::Sub, one, c_tree::variable(x))?;
     let shifted = shift_right(alloc, size, k)?;
-    let r = minus_one_less(alloc, shifted)?;
-    Ok(r)
+    minus_one_less(alloc, shifted)
 }
 
 // An expression that isn't negative, shifted right.
 fn shift_right(alloc: Global, e: CExpr, k: u32) -> Result<CExpr, Memory>
     ensures { IfOk result (λ r. expr_view r ≡ Shapes.shift_right (expr_view e) k) }
 {
-    let r = c_tree::binary(alloc, COp::Shr, e, c_tree::unsigned(k as u64))?;
-    Ok(r)
+    c_tree::binary(alloc, COp::Shr, e, c_tree::unsigned(k as u64))
 }
 
 /// The low `k` bits of the word in `x`.
@@ -59,8 +54,7 @@ pub fn low_bits(alloc: Global, signed: bool, x: u32, k: u32) -> Result<CExpr, Me
     ensures { IfOk result (λ r. expr_view r ≡ Shapes.low_bits signed x k) }
 {
     let bits = bits_of(alloc, signed, c_tree::variable(x))?;
-    let r = c_tree::binary(alloc, COp::And, bits, c_tree::unsigned(ones(k)))?;
-    Ok(r)
+    c_tree::binary(alloc, COp::And, bits, c_tree::unsigned(ones(k)))
 }
 
 // The floor in `f`, or one more where the low `k` bits of the word in `x` are above `c`.
@@ -71,10 +65,7 @@ fn step_above(alloc: Global, signed: bool, x: u32, f: u32, k: u32, c: u64) -> Re
 {
     let low = low_bits(alloc, signed, x, k)?;
     match c_tree::binary(alloc, COp::Add, c_tree::variable(f), constant(signed, 1)) {
-        Ok(next) => {
-            let r = choose_less(alloc, c_tree::unsigned(c), low, next, c_tree::variable(f))?;
-            Ok(r)
-        }
+        Ok(next) => { choose_less(alloc, c_tree::unsigned(c), low, next, c_tree::variable(f)) }
         Err(error) => {
             drop(low);
             Err(error)
@@ -98,26 +89,11 @@ pub fn round_shift(
 {
     match method {
         Rounding::Floor => Ok(c_tree::variable(f)),
-        Rounding::Ceiling => {
-            let r = step_above(alloc, signed, x, f, k, 0)?;
-            Ok(r)
-        }
-        Rounding::Nearest => {
-            let r = step_above(alloc, signed, x, f, k, power(k - 1) - 1)?;
-            Ok(r)
-        }
-        Rounding::Zero => {
-            let r = toward_zero(alloc, signed, x, f, k)?;
-            Ok(r)
-        }
-        Rounding::Round => {
-            let r = away_at_half(alloc, signed, x, f, k)?;
-            Ok(r)
-        }
-        Rounding::Convergent => {
-            let r = even_at_half(alloc, signed, x, f, k)?;
-            Ok(r)
-        }
+        Rounding::Ceiling => { step_above(alloc, signed, x, f, k, 0) }
+        Rounding::Nearest => { step_above(alloc, signed, x, f, k, power(k - 1) - 1) }
+        Rounding::Zero => { toward_zero(alloc, signed, x, f, k) }
+        Rounding::Round => { away_at_half(alloc, signed, x, f, k) }
+        Rounding::Convergent => { even_at_half(alloc, signed, x, f, k) }
     }
 }
 
@@ -129,8 +105,7 @@ fn toward_zero(alloc: Global, signed: bool, x: u32, f: u32, k: u32) -> Result<CE
 {
     if signed {
         let up = step_above(alloc, true, x, f, k, 0)?;
-        let r = below_zero(alloc, x, up, c_tree::variable(f))?;
-        Ok(r)
+        below_zero(alloc, x, up, c_tree::variable(f))
     } else {
         Ok(c_tree::variable(f))
     }
@@ -146,10 +121,7 @@ fn away_at_half(alloc: Global, signed: bool, x: u32, f: u32, k: u32) -> Result<C
     let at_half = step_above(alloc, signed, x, f, k, half - 1)?;
     if signed {
         match step_above(alloc, true, x, f, k, half) {
-            Ok(past_half) => {
-                let r = below_zero(alloc, x, past_half, at_half)?;
-                Ok(r)
-            }
+            Ok(past_half) => { below_zero(alloc, x, past_half, at_half) }
             Err(error) => {
                 drop(at_half);
                 Err(error)
@@ -165,8 +137,7 @@ fn lowest_bit(alloc: Global, signed: bool, f: u32) -> Result<CExpr, Memory>
     ensures { IfOk result (λ r. expr_view r ≡ Binary And (Shapes.bits_of signed (Var f)) (Unsigned 1)) }
 {
     let bits = bits_of(alloc, signed, c_tree::variable(f))?;
-    let r = c_tree::binary(alloc, COp::And, bits, c_tree::unsigned(1))?;
-    Ok(r)
+    c_tree::binary(alloc, COp::And, bits, c_tree::unsigned(1))
 }
 
 // The first of two expressions where the word in `f` is odd, and else the second.
@@ -180,10 +151,7 @@ fn where_odd(
     ensures { IfOk result (λ r. expr_view r ≡ Choose (Shapes.is_less (Unsigned 0) (Binary And (Shapes.bits_of signed (Var f)) (Unsigned 1))) (expr_view at_half) (expr_view past_half)) }
 {
     match lowest_bit(alloc, signed, f) {
-        Ok(odd) => {
-            let r = choose_less(alloc, c_tree::unsigned(0), odd, at_half, past_half)?;
-            Ok(r)
-        }
+        Ok(odd) => { choose_less(alloc, c_tree::unsigned(0), odd, at_half, past_half) }
         Err(error) => {
             drop(at_half);
             drop(past_half);
@@ -201,10 +169,7 @@ fn even_at_half(alloc: Global, signed: bool, x: u32, f: u32, k: u32) -> Result<C
     let half = power(k - 1);
     let at_half = step_above(alloc, signed, x, f, k, half - 1)?;
     match step_above(alloc, signed, x, f, k, half) {
-        Ok(past_half) => {
-            let r = where_odd(alloc, signed, f, at_half, past_half)?;
-            Ok(r)
-        }
+        Ok(past_half) => { where_odd(alloc, signed, f, at_half, past_half) }
         Err(error) => {
             drop(at_half);
             Err(error)
@@ -216,14 +181,13 @@ fn even_at_half(alloc: Global, signed: bool, x: u32, f: u32, k: u32) -> Result<C
 fn one_above(alloc: Global, signed: bool, x: u32, c: u64) -> Result<CExpr, Memory>
     ensures { IfOk result (λ r. expr_view r ≡ Shapes.one_above signed x c) }
 {
-    let r = choose_less(
+    choose_less(
         alloc,
         constant(signed, c),
         c_tree::variable(x),
         constant(signed, 1),
         constant(signed, 0),
-    )?;
-    Ok(r)
+    )
 }
 
 // The same for an unsigned word alone, where just 64 bits are dropped.
@@ -233,8 +197,7 @@ fn half_above(alloc: Global, signed: bool, x: u32, k: u32, c: u64) -> Result<CEx
     if signed {
         Ok(c_tree::signed(0))
     } else if k == 64 {
-        let r = one_above(alloc, false, x, c)?;
-        Ok(r)
+        one_above(alloc, false, x, c)
     } else {
         Ok(c_tree::unsigned(0))
     }
@@ -247,10 +210,7 @@ fn least_below(alloc: Global, x: u32, k: u32) -> Result<CExpr, Memory>
     if k == 64 {
         let end = c_tree::negation(alloc, c_tree::signed(i64::MAX as u64))?;
         match minus_one(alloc) {
-            Ok(minus) => {
-                let r = choose_less(alloc, c_tree::variable(x), end, minus, c_tree::signed(0))?;
-                Ok(r)
-            }
+            Ok(minus) => { choose_less(alloc, c_tree::variable(x), end, minus, c_tree::signed(0)) }
             Err(error) => {
                 drop(end);
                 Err(error)
@@ -267,8 +227,7 @@ pub fn far_floor(alloc: Global, signed: bool, x: u32) -> Result<CExpr, Memory>
 {
     if signed {
         let minus = minus_one(alloc)?;
-        let r = below_zero(alloc, x, minus, c_tree::signed(0))?;
-        Ok(r)
+        below_zero(alloc, x, minus, c_tree::signed(0))
     } else {
         Ok(c_tree::unsigned(0))
     }
@@ -279,11 +238,9 @@ fn far_away(alloc: Global, signed: bool, x: u32, k: u32) -> Result<CExpr, Memory
     ensures { IfOk result (λ r. expr_view r ≡ Shapes.far_away signed x k) }
 {
     if signed {
-        let r = least_below(alloc, x, k)?;
-        Ok(r)
+        least_below(alloc, x, k)
     } else {
-        let r = half_above(alloc, false, x, k, (1 << 63) - 1)?;
-        Ok(r)
+        half_above(alloc, false, x, k, (1 << 63) - 1)
     }
 }
 
@@ -299,26 +256,11 @@ pub fn round_far(
     ensures { IfOk result (λ r. expr_view r ≡ Shapes.round_far method signed x k) }
 {
     match method {
-        Rounding::Floor => {
-            let r = far_floor(alloc, signed, x)?;
-            Ok(r)
-        }
-        Rounding::Ceiling => {
-            let r = one_above(alloc, signed, x, 0)?;
-            Ok(r)
-        }
+        Rounding::Floor => { far_floor(alloc, signed, x) }
+        Rounding::Ceiling => { one_above(alloc, signed, x, 0) }
         Rounding::Zero => Ok(constant(signed, 0)),
-        Rounding::Nearest => {
-            let r = half_above(alloc, signed, x, k, (1 << 63) - 1)?;
-            Ok(r)
-        }
-        Rounding::Round => {
-            let r = far_away(alloc, signed, x, k)?;
-            Ok(r)
-        }
-        Rounding::Convergent => {
-            let r = half_above(alloc, signed, x, k, 1 << 63)?;
-            Ok(r)
-        }
+        Rounding::Nearest => { half_above(alloc, signed, x, k, (1 << 63) - 1) }
+        Rounding::Round => { far_away(alloc, signed, x, k) }
+        Rounding::Convergent => { half_above(alloc, signed, x, k, 1 << 63) }
     }
 }

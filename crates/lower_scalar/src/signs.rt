@@ -33,8 +33,7 @@ pub fn constant(signed: bool, n: u64) -> CExpr
 pub fn minus_one(alloc: Global) -> Result<CExpr, Memory>
     ensures { IfOk result (λ r. expr_view r ≡ Shapes.minus_one) }
 {
-    let r = c_tree::negation(alloc, c_tree::signed(1))?;
-    Ok(r)
+    c_tree::negation(alloc, c_tree::signed(1))
 }
 
 /// -1 less an expression.
@@ -42,10 +41,7 @@ pub fn minus_one_less(alloc: Global, e: CExpr) -> Result<CExpr, Memory>
     ensures { IfOk result (λ r. expr_view r ≡ Binary Sub Shapes.minus_one (expr_view e)) }
 {
     match minus_one(alloc) {
-        Ok(minus) => {
-            let r = c_tree::binary(alloc, COp::Sub, minus, e)?;
-            Ok(r)
-        }
+        Ok(minus) => { c_tree::binary(alloc, COp::Sub, minus, e) }
         Err(error) => {
             drop(e);
             Err(error)
@@ -58,8 +54,7 @@ pub fn below_minus(alloc: Global, n: u64) -> Result<CExpr, Memory>
     ensures { IfOk result (λ r. expr_view r ≡ Shapes.below_minus n) }
 {
     let minus = c_tree::negation(alloc, c_tree::signed(n))?;
-    let r = c_tree::binary(alloc, COp::Sub, minus, c_tree::signed(1))?;
-    Ok(r)
+    c_tree::binary(alloc, COp::Sub, minus, c_tree::signed(1))
 }
 
 /// An expression of this signedness as `uint64_t`: a negative number modulo `2^64`.
@@ -67,8 +62,7 @@ pub fn bits_of(alloc: Global, signed: bool, e: CExpr) -> Result<CExpr, Memory>
     ensures { IfOk result (λ r. expr_view r ≡ Shapes.bits_of signed (expr_view e)) }
 {
     if signed {
-        let r = c_tree::cast(alloc, CWord::U64, e)?;
-        Ok(r)
+        c_tree::cast(alloc, CWord::U64, e)
     } else {
         Ok(e)
     }
@@ -82,12 +76,10 @@ pub fn resigned(alloc: Global, signed: bool, to: bool, e: CExpr) -> Result<CExpr
         if to {
             Ok(e)
         } else {
-            let r = c_tree::cast(alloc, CWord::U64, e)?;
-            Ok(r)
+            c_tree::cast(alloc, CWord::U64, e)
         }
     } else if to {
-        let r = c_tree::cast(alloc, CWord::I64, e)?;
-        Ok(r)
+        c_tree::cast(alloc, CWord::I64, e)
     } else {
         Ok(e)
     }
@@ -104,14 +96,12 @@ pub fn choose_less(
     ensures { IfOk result (λ r. expr_view r ≡ Choose (Shapes.is_less (expr_view a) (expr_view b)) (expr_view yes) (expr_view no)) }
 {
     let test = c_tree::compare(CRel::Lt, a, b);
-    let r = c_tree::choice(alloc, test, yes, no)?;
-    Ok(r)
+    c_tree::choice(alloc, test, yes, no)
 }
 
 /// The first of two expressions where a signed variable is below 0, and else the second.
 pub fn below_zero(alloc: Global, x: u32, below: CExpr, other: CExpr) -> Result<CExpr, Memory>
     ensures { IfOk result (λ r. expr_view r ≡ Shapes.by_sign true x (expr_view below) (expr_view other)) }
 {
-    let r = choose_less(alloc, c_tree::variable(x), c_tree::signed(0), below, other)?;
-    Ok(r)
+    choose_less(alloc, c_tree::variable(x), c_tree::signed(0), below, other)
 }
