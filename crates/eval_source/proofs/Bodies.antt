@@ -1,5 +1,5 @@
 -- What opened statements stand for.
-use Rattle.std.proofs.Common.{◌≡◌, List, Option, Some, None, ap, ◌∙◌, sym}
+use Rattle.std.proofs.Common.{◌≡◌, List, Some, None, ap, ◌∙◌, sym}
 use Rattle.fic_base.specs.declared.place.Place.{Place}
 use Rattle.mat_ast.specs.Tree.{Sta, Store, IfOnly, IfElse, ForEach}
 use Rattle.mat_ast.specs.View.{Seen, expr_view, args_view, stmt_view, block_view, arms_view, stmt_step, arm_step}

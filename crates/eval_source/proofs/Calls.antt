@@ -3,7 +3,7 @@ use Rattle.std.proofs.Common.{◌≡◌, Bool, true, false, List, [], ◌∷◌,
 use Rattle.fic_base.specs.declared.place.Place.{Place}
 use Rattle.fi_eval.specs.Outcome.{Gives, Wrong}
 use Rattle.fi_meaning.specs.Calls.{Argument}
-use Rattle.eval_source.specs.Items.{Passed, closed}
+use Rattle.eval_source.specs.Items.{closed}
 
 appended_nil : {A : Type 0} (xs : List A) → xs ++ [] ≡ xs
 appended_nil [] = refl

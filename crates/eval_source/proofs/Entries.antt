@@ -19,7 +19,7 @@ use Rattle.eval_value.specs.declared.halt.Halt.{Halt}
 use Rattle.eval_value.specs.declared.value.Value.{Value}
 use Rattle.eval_source.specs.View.{Call}
 use Rattle.eval_source.proofs.Files.{no_function, has_function}
-use Rattle.eval_source.proofs.Follow.{after_ok, after_err}
+use Rattle.eval_call.proofs.Follow.{after_ok, after_err}
 use Rattle.eval_source.proofs.Targets.{assoc}
 
 -- ---- a call

@@ -1,5 +1,5 @@
 -- Bodies, outputs and calls of the functions of a file.
-use Rattle.std.proofs.Common.{◌≡◌, ℕ, false, zero, suc, ◌+◌, ◌-◌, ◌<◌, ◌≤◌, List, [], ◌∷◌, ◌++◌, length, map, drop, Option, Some, None, Result, Err, refl, sym, ap, subst, ◌∙◌, arith}
+use Rattle.std.proofs.Common.{◌≡◌, ℕ, false, zero, suc, ◌+◌, ◌-◌, ◌<◌, ◌≤◌, List, [], ◌∷◌, ◌++◌, length, map, drop, Option, Some, None, Err, refl, sym, ap, subst, ◌∙◌, arith}
 use Rattle.std.specs.Prelude.{option_map}
 use Rattle.std.specs.Borrow.{Bor}
 use Rattle.fic_base.specs.declared.place.Place.{Place}
@@ -8,8 +8,8 @@ use Rattle.mat_ast.specs.View.{func_view}
 use Rattle.mat_ast.specs.declared.tree.Func.{Func}
 use Rattle.fi_rules.specs.Options.{◌|>◌, and_then}
 use Rattle.fi_rules.specs.Value.{Val}
-use Rattle.fi_eval.specs.Meaning.{variables_of, function_named}
-use Rattle.fi_eval.specs.Outcome.{Got, Gives, Fault, Over, Wrong, bind, ◌>>=◌, or_wrong}
+use Rattle.fi_eval.specs.Meaning.{variables_of}
+use Rattle.fi_eval.specs.Outcome.{Gives, Wrong, bind, ◌>>=◌, or_wrong}
 use Rattle.fi_meaning.specs.Environment.{Env, Flow, env_of, variable}
 use Rattle.mat_ast.specs.declared.tree.Ident.{Ident}
 use Rattle.fi_meaning.specs.Meaning.{body_run, first_outputs, entry_output, entry_outputs}
@@ -25,7 +25,7 @@ use Rattle.eval_value.specs.declared.value.Value.{Value}
 use Rattle.eval_source.proofs.Lists.{mapped, appended_nil}
 use Rattle.eval_source.proofs.Targets.{assoc}
 use Rattle.eval_source.proofs.Views.{map_length}
-use Rattle.eval_source.proofs.Follow.{after_err}
+use Rattle.eval_call.proofs.Follow.{after_err}
 
 same_env : (f : code.Flow) (env : Env) → env_of (flow_view f env) ≡ env
 same_env flow.Went env = refl

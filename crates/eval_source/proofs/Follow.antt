@@ -1,31 +1,18 @@
 -- What answers say of outcomes that follow from one another.
-use Rattle.std.proofs.Common.{◌≡◌, ℕ, Bool, true, false, List, map, Option, Some, None, Result, Ok, Err, refl, sym, ap, subst, ◌∙◌}
+use Rattle.std.proofs.Common.{◌≡◌, ℕ, Bool, true, false, Option, Some, None, Result, Err, sym, ap, subst, ◌∙◌}
 use Rattle.std.specs.Prelude.{option_map}
 use Rattle.std.specs.Borrow.{Bor}
 use Rattle.fic_base.specs.declared.place.Place.{Place}
 use Rattle.fi_rules.specs.Value.{Val}
 use Rattle.fi_rules.specs.Options.{◌|>◌, and_then}
-use Rattle.fi_eval.specs.Outcome.{Got, Gives, Fault, Over, Wrong, bind, ◌>>=◌, choose, or_wrong}
-use Rattle.fi_values.specs.Reads.{shape_of, read}
+use Rattle.fi_eval.specs.Outcome.{Got, Gives, Wrong, choose, or_wrong}
+use Rattle.fi_values.specs.Reads.{shape_of}
 use Rattle.fi_values.specs.Subscripts.{extent}
 use Rattle.eval_value.specs.Tells.{Tells}
-use Rattle.eval_value.specs.View.{item_view, value_view}
+use Rattle.eval_value.specs.View.{value_view}
 use Rattle.eval_value.specs.declared.halt.Halt.{Halt}
 use Rattle.eval_value.specs.declared.halt.Halt.TheVariants as halt
 use Rattle.eval_value.specs.declared.value.Value.{Value}
-
--- behind a part that has a result
-pub after_ok : {S A B : Type 0} (r : Result S Halt) (view : S → B) (got : Got Place A) (x : A) (next : A → Got Place B) → got ≡ Gives x → Tells r view (next x) → Tells r view (got >>= next)
-unfolding bind
-after_ok r view got x next h t = subst (λ g. Tells r view (bind g next)) (sym h) t
-
--- behind a part that has none
-pub after_err : {R S A B : Type 0} (h : Halt) (part : R → A) (view : S → B) (got : Got Place A) (next : A → Got Place B) → Tells (Err h) part got → Tells (Err h) view (got >>= next)
-unfolding bind
-after_err halt.Memory part view got next t = tt
-after_err (halt.Fault site) part view got next t = ap (λ g. bind g next) t
-after_err halt.Over part view got next t = ap (λ g. bind g next) t
-after_err (halt.Wrong at) part view got next t = ap (λ g. bind g next) t
 
 -- the same for a part alone
 pub err_tells : {R S A : Type 0} (h : Halt) (part : R → A) (view : S → A) (got : Got Place A) → Tells (Err h) part got → Tells (Err h) view got
@@ -42,10 +29,6 @@ chosen r view b x y h t = subst (λ c. Tells r view (choose c x y)) (sym h) t
 pub not_chosen : {S B : Type 0} (r : Result S Halt) (view : S → B) (b : Bool) (x y : Got Place B) → b ≡ false → Tells r view y → Tells r view (choose b x y)
 unfolding choose
 not_chosen r view b x y h t = subst (λ c. Tells r view (choose c x y)) (sym h) t
-
--- a value that an answer has
-pub known : (r : Result Value Halt) (at : Place) (found : Option Value) (o : Option Val) → item_view found ≡ o → Tells r value_view (or_wrong at (item_view found)) → Tells r value_view (or_wrong at o)
-known r at found o h t = subst (λ p. Tells r value_view (or_wrong at p)) h t
 
 -- ---- what a table of variables has
 

@@ -2,7 +2,7 @@
 use Rattle.std.proofs.Common.{◌≡◌, ℕ, suc, Bool, true, false, List, [], ◌∷◌, ◌++◌, map, Option, Some, None, Err, refl, sym, ap, subst, ◌∙◌}
 use Rattle.eval_value.specs.Tells.{Tells}
 use Rattle.eval_value.specs.declared.halt.Halt.{Halt}
-use Rattle.eval_source.proofs.Follow.{after_err}
+use Rattle.eval_call.proofs.Follow.{after_err}
 use Rattle.std.proofs.lemmas.List.{append_assoc}
 use Rattle.fic_base.specs.declared.place.Place.{Place}
 use Rattle.mat_ast.specs.Tree.{Exp}

@@ -1,5 +1,5 @@
 -- Statements of a block, arms and turns of loops one by one.
-use Rattle.std.proofs.Common.{◌≡◌, ℕ, zero, suc, ◌+◌, ◌-◌, ◌<◌, ◌≤◌, Bool, true, false, List, [], ◌∷◌, map, Option, Some, None, Result, Err, refl, sym, ap, subst, ◌∙◌, arith}
+use Rattle.std.proofs.Common.{◌≡◌, ℕ, zero, suc, ◌+◌, ◌-◌, ◌<◌, ◌≤◌, Bool, true, false, List, [], ◌∷◌, Option, Some, None, Err, refl, sym, ap, subst, ◌∙◌, arith}
 use Rattle.std.specs.Prelude.{ℤ, is_some}
 use Rattle.fic_base.specs.declared.place.Place.{Place}
 use Rattle.fi_eval.specs.Outcome.{Got, Gives, Fault, Over, Wrong, bind, ◌>>=◌, choose}
@@ -9,7 +9,7 @@ use Rattle.mat_ast.specs.View.{stmt_view, arms_view, block_view}
 use Rattle.mat_ast.specs.declared.tree.Stmt.{Stmt}
 use Rattle.mat_ast.specs.declared.tree.Stmt.TheVariants as stmt
 use Rattle.mat_ast.specs.declared.tree.Arm as arm
-use Rattle.fi_meaning.specs.Environment.{Env, Flow, Went, Broke, Continued, then_do, turned, forgotten, behind_loop}
+use Rattle.fi_meaning.specs.Environment.{Env, Flow, Went, Broke, then_do, turned, forgotten, behind_loop}
 use Rattle.fi_meaning.specs.Expressions.{Context}
 use Rattle.fi_meaning.specs.Statements as statements
 use Rattle.fi_meaning.specs.Statements.{turns, condition, run_arms, run_block}
@@ -18,7 +18,7 @@ use Rattle.eval_value.specs.declared.halt.Halt.{Halt}
 use Rattle.eval_source.specs.Flows.{flow_view, leaves, ends_loop, Armed, Held, NoneHeld, armed, armed_view, next_arm, or_else}
 use Rattle.eval_source.specs.declared.flow.Flow as code
 use Rattle.eval_source.specs.declared.flow.Flow.TheVariants as flow
-use Rattle.eval_source.proofs.Follow.{after_err}
+use Rattle.eval_call.proofs.Follow.{after_err}
 use Rattle.eval_source.proofs.Bodies.{if_only_view, if_else_view}
 
 -- one that has no result

@@ -1,5 +1,5 @@
 -- Expressions behind their parts.
-use Rattle.std.proofs.Common.{◌≡◌, ℕ, Bool, true, false, List, Option, Some, None, Result, Err, sym, ap, subst, ◌∙◌}
+use Rattle.std.proofs.Common.{◌≡◌, ℕ, Bool, true, false, Option, Some, None, Result, Err, sym, ap, subst, ◌∙◌}
 use Rattle.fic_base.specs.declared.place.Place.{Place}
 use Rattle.mat_ast.specs.View.{expr_view, arg_view}
 use Rattle.mat_ast.specs.declared.tree.Arg.{Arg}
@@ -19,7 +19,7 @@ use Rattle.eval_value.specs.View.{item_view, value_view}
 use Rattle.eval_value.specs.declared.halt.Halt.{Halt}
 use Rattle.eval_value.specs.declared.value.Value.{Value}
 use Rattle.eval_source.specs.Items.{item_value}
-use Rattle.eval_source.proofs.Follow.{after_ok, after_err}
+use Rattle.eval_call.proofs.Follow.{after_ok, after_err}
 use Rattle.eval_source.proofs.Views.{range_by_view, item_is, all_is}
 
 -- a range with a step

@@ -1,5 +1,5 @@
 -- Assignments.
-use Rattle.std.proofs.Common.{◌≡◌, ◌≢◌, ℕ, zero, suc, ◌+◌, ◌<◌, List, [], ◌∷◌, length, map, drop, Option, Some, None, Result, Err, refl, sym, ap, subst, ◌∙◌, arith}
+use Rattle.std.proofs.Common.{◌≡◌, ℕ, zero, suc, ◌+◌, List, [], ◌∷◌, length, map, drop, Option, Some, None, Result, Err, refl, sym, ap, subst, ◌∙◌}
 use Rattle.std.specs.Prelude.{option_map}
 use Rattle.std.specs.Borrow.{Bor}
 use Rattle.fic_base.specs.declared.place.Place.{Place}
@@ -14,7 +14,7 @@ use Rattle.fi_meaning.specs.Environment.{Env, Went, Flow, assigned, under_names,
 use Rattle.fi_meaning.specs.Expressions.{Context, value, subscript_values, args_count, site_of}
 use Rattle.eval_value.specs.Tells.{Tells}
 use Rattle.eval_value.specs.declared.halt.Halt.{Halt}
-use Rattle.eval_source.proofs.Follow.{after_ok, after_err}
+use Rattle.eval_call.proofs.Follow.{after_ok, after_err}
 use Rattle.eval_source.proofs.Views.{map_length}
 use Rattle.fi_meaning.specs.Statements.{output_values, call_outputs}
 use Rattle.eval_value.specs.View.{value_view}

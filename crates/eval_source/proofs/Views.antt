@@ -1,10 +1,10 @@
 -- What opened expressions and lists of arguments stand for.
-use Rattle.std.proofs.Common.{◌≡◌, ℕ, suc, List, [], ◌∷◌, map, length, ap, ◌∙◌, sym, refl, Option, Some, None}
+use Rattle.std.proofs.Common.{◌≡◌, suc, List, [], ◌∷◌, map, length, ap, ◌∙◌, sym, refl, Option, Some, None}
 use Rattle.fic_base.specs.declared.place.Place.{Place}
 use Rattle.mat_ast.specs.View.{expr_view, row_view, row_of, args_of, arg_view, args_view, arg_step, kind_step, expr_step, row_step}
-use Rattle.mat_ast.specs.Tree.{Exp, Row, Apply, Binary, Range, RangeBy}
+use Rattle.mat_ast.specs.Tree.{Exp, Row, Binary, Range, RangeBy}
 use Rattle.mat_ast.specs.declared.tree.BinOp.{BinOp}
-use Rattle.mat_ast.specs.declared.tree.Arg.{Arg, fold-roll-Arg, fold-Arg}
+use Rattle.mat_ast.specs.declared.tree.Arg.{Arg, fold-roll-Arg}
 use Rattle.mat_ast.specs.declared.tree.Arg.TheVariants as arg
 use Rattle.mat_ast.specs.declared.tree.Arg.TheVariants.{rolls-Item, rolls-All}
 use Rattle.mat_ast.specs.declared.tree.Row as code

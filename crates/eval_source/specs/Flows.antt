@@ -3,7 +3,7 @@ use Rattle.std.specs.Prelude.{ℕ, nat_le, Bool, true, false, ℤ, List, length,
 use Rattle.fic_base.specs.declared.place.Place.{Place}
 use Rattle.mat_ast.specs.Tree.{Exp, Block, Arms, NoArms, Arm}
 use Rattle.fi_rules.specs.Value.{Val}
-use Rattle.fi_eval.specs.Outcome.{Got, Gives, Wrong, ◌>>=◌, or_wrong, when◌then◌else◌}
+use Rattle.fi_eval.specs.Outcome.{Got, Gives, Wrong, ◌>>=◌, when◌then◌else◌}
 use Rattle.fi_values.specs.Numbers.{whole_value}
 use Rattle.fi_meaning.specs.Environment.{Env, Flow, Went, Broke, Continued, assigned}
 use Rattle.fi_meaning.specs.Expressions.{Context, looped, value}

@@ -31,7 +31,7 @@ use mat_ast::{Arg, Expr, ExprKind, Ident};
 use std::alloc::Global;
 
 /// An assignment of an expression to a variable.
-#[tactic(auto, using(crate::proofs::Follow::after_err, crate::proofs::Follow::chosen, crate::proofs::Follow::not_chosen), unfolding(fi_eval::specs::Outcome::bind, fi_eval::specs::Outcome::choose))]
+#[tactic(auto, using(eval_call::proofs::Follow::after_err, crate::proofs::Follow::chosen, crate::proofs::Follow::not_chosen), unfolding(fi_eval::specs::Outcome::bind, fi_eval::specs::Outcome::choose))]
 pub fn assign<C: Caller>(
     alloc: Global,
     scope: &Scope<'_>,
@@ -48,7 +48,7 @@ pub fn assign<C: Caller>(
 }
 
 /// An assignment of an expression to subscripts of a variable. It goes value, variable, subscripts.
-#[tactic(auto, using(crate::proofs::Follow::after_err, crate::proofs::Follow::chosen, crate::proofs::Follow::not_chosen), unfolding(fi_eval::specs::Outcome::bind, fi_eval::specs::Outcome::choose))]
+#[tactic(auto, using(eval_call::proofs::Follow::after_err, crate::proofs::Follow::chosen, crate::proofs::Follow::not_chosen), unfolding(fi_eval::specs::Outcome::bind, fi_eval::specs::Outcome::choose))]
 pub fn store_into<C: Caller>(
     args: &[Arg],
     alloc: Global,
@@ -107,7 +107,7 @@ fn store_at(
 }
 
 /// An assignment of the outputs of a call to variables; one output is the value of an expression.
-#[tactic(auto, using(crate::proofs::Follow::after_err, crate::proofs::Follow::chosen, crate::proofs::Follow::not_chosen), unfolding(fi_eval::specs::Outcome::bind, fi_eval::specs::Outcome::choose))]
+#[tactic(auto, using(eval_call::proofs::Follow::after_err, crate::proofs::Follow::chosen, crate::proofs::Follow::not_chosen), unfolding(fi_eval::specs::Outcome::bind, fi_eval::specs::Outcome::choose))]
 pub fn assign_outputs<C: Caller>(
     targets: &[Ident],
     alloc: Global,
@@ -159,7 +159,7 @@ fn set_each(
 }
 
 // The values of so many outputs of a call.
-#[tactic(auto, using(crate::proofs::Follow::after_err, crate::proofs::Follow::chosen, crate::proofs::Follow::not_chosen), unfolding(fi_eval::specs::Outcome::bind, fi_eval::specs::Outcome::choose))]
+#[tactic(auto, using(eval_call::proofs::Follow::after_err, crate::proofs::Follow::chosen, crate::proofs::Follow::not_chosen), unfolding(fi_eval::specs::Outcome::bind, fi_eval::specs::Outcome::choose))]
 fn output_values<C: Caller>(
     e: &Expr,
     alloc: Global,
@@ -178,7 +178,7 @@ fn output_values<C: Caller>(
 }
 
 // One output is the value of the expression.
-#[tactic(auto, using(crate::proofs::Follow::after_err, crate::proofs::Follow::chosen, crate::proofs::Follow::not_chosen), unfolding(fi_eval::specs::Outcome::bind, fi_eval::specs::Outcome::choose))]
+#[tactic(auto, using(eval_call::proofs::Follow::after_err, crate::proofs::Follow::chosen, crate::proofs::Follow::not_chosen), unfolding(fi_eval::specs::Outcome::bind, fi_eval::specs::Outcome::choose))]
 fn one_output<C: Caller>(
     e: &Expr,
     alloc: Global,
@@ -195,7 +195,7 @@ fn one_output<C: Caller>(
 }
 
 // The values of a call of a function of the file.
-#[tactic(auto, using(crate::proofs::Follow::after_err), unfolding(fi_eval::specs::Outcome::bind, fi_meaning::specs::Statements::call_outputs))]
+#[tactic(auto, using(eval_call::proofs::Follow::after_err), unfolding(fi_eval::specs::Outcome::bind, fi_meaning::specs::Statements::call_outputs))]
 fn call_outputs<C: Caller>(
     e: &Expr,
     alloc: Global,
@@ -231,7 +231,7 @@ fn call_outputs<C: Caller>(
 }
 
 // The values of a name with arguments; wrong at the name where it is that of a variable, behind its subscripts.
-#[tactic(auto, using(crate::proofs::Follow::after_err, crate::proofs::Follow::chosen, crate::proofs::Follow::not_chosen), unfolding(fi_eval::specs::Outcome::bind, fi_eval::specs::Outcome::choose))]
+#[tactic(auto, using(eval_call::proofs::Follow::after_err, crate::proofs::Follow::chosen, crate::proofs::Follow::not_chosen), unfolding(fi_eval::specs::Outcome::bind, fi_eval::specs::Outcome::choose))]
 fn applied_outputs<C: Caller>(
     args: &[Arg],
     alloc: Global,
@@ -252,7 +252,7 @@ fn applied_outputs<C: Caller>(
 }
 
 // A variable gives no list of values, once its subscripts are evaluated.
-#[tactic(auto, using(crate::proofs::Follow::after_err), unfolding(fi_eval::specs::Outcome::bind))]
+#[tactic(auto, using(eval_call::proofs::Follow::after_err), unfolding(fi_eval::specs::Outcome::bind))]
 fn subscripted_outputs<C: Caller>(
     args: &[Arg],
     alloc: Global,
@@ -270,7 +270,7 @@ fn subscripted_outputs<C: Caller>(
 }
 
 // The values of a call of a function of the file on arguments.
-#[tactic(auto, using(crate::proofs::Follow::after_err), unfolding(fi_eval::specs::Outcome::bind))]
+#[tactic(auto, using(eval_call::proofs::Follow::after_err), unfolding(fi_eval::specs::Outcome::bind))]
 fn function_outputs<C: Caller>(
     args: &[Arg],
     alloc: Global,
@@ -309,7 +309,7 @@ fn called_outputs<C: Caller>(
 }
 
 // A call of a function of the file, where the name is that of one and of no variable.
-#[tactic(auto, using(crate::proofs::Follow::after_err, crate::proofs::Follow::chosen, crate::proofs::Follow::not_chosen), unfolding(fi_eval::specs::Outcome::bind, fi_eval::specs::Outcome::choose))]
+#[tactic(auto, using(eval_call::proofs::Follow::after_err, crate::proofs::Follow::chosen, crate::proofs::Follow::not_chosen), unfolding(fi_eval::specs::Outcome::bind, fi_eval::specs::Outcome::choose))]
 fn call_named<C: Caller>(
     alloc: Global,
     scope: &Scope<'_>,

@@ -39,7 +39,7 @@ use std::alloc::Global;
 /// The value of an expression in the scope of a function, with the values of its variables; `ends` is what `end` means there. Halts exactly
 /// as the definition says; want of memory is the free answer.
 #[cycle(evaluate)]
-#[tactic(auto, using(crate::proofs::Follow::after_err, crate::proofs::Follow::chosen, crate::proofs::Follow::not_chosen), unfolding(fi_eval::specs::Outcome::bind))]
+#[tactic(auto, using(eval_call::proofs::Follow::after_err, crate::proofs::Follow::chosen, crate::proofs::Follow::not_chosen), unfolding(fi_eval::specs::Outcome::bind))]
 pub fn evaluate<C: Caller>(
     e: &Expr,
     alloc: Global,
@@ -135,7 +135,7 @@ pub fn evaluate<C: Caller>(
 
 // A sign, or `~`, before an expression.
 #[cycle(evaluate)]
-#[tactic(auto, using(crate::proofs::Follow::after_err, crate::proofs::Follow::chosen, crate::proofs::Follow::not_chosen), unfolding(fi_eval::specs::Outcome::bind))]
+#[tactic(auto, using(eval_call::proofs::Follow::after_err, crate::proofs::Follow::chosen, crate::proofs::Follow::not_chosen), unfolding(fi_eval::specs::Outcome::bind))]
 fn unary<C: Caller>(
     part: &Expr,
     alloc: Global,
@@ -156,7 +156,7 @@ fn unary<C: Caller>(
 
 // A transpose of an expression.
 #[cycle(evaluate)]
-#[tactic(auto, using(crate::proofs::Follow::after_err, crate::proofs::Follow::chosen, crate::proofs::Follow::not_chosen), unfolding(fi_eval::specs::Outcome::bind))]
+#[tactic(auto, using(eval_call::proofs::Follow::after_err, crate::proofs::Follow::chosen, crate::proofs::Follow::not_chosen), unfolding(fi_eval::specs::Outcome::bind))]
 fn post<C: Caller>(
     part: &Expr,
     alloc: Global,
@@ -177,7 +177,7 @@ fn post<C: Caller>(
 
 // The last bound of a range without a step, behind the first.
 #[cycle(evaluate)]
-#[tactic(auto, using(crate::proofs::Follow::after_err, crate::proofs::Follow::chosen, crate::proofs::Follow::not_chosen), unfolding(fi_eval::specs::Outcome::bind))]
+#[tactic(auto, using(eval_call::proofs::Follow::after_err, crate::proofs::Follow::chosen, crate::proofs::Follow::not_chosen), unfolding(fi_eval::specs::Outcome::bind))]
 fn to_last<C: Caller>(
     last: &Expr,
     alloc: Global,
@@ -201,7 +201,7 @@ fn to_last<C: Caller>(
 
 // The last bound of a range, behind the first and the step.
 #[cycle(evaluate)]
-#[tactic(auto, using(crate::proofs::Follow::after_err, crate::proofs::Follow::chosen, crate::proofs::Follow::not_chosen), unfolding(fi_eval::specs::Outcome::bind))]
+#[tactic(auto, using(eval_call::proofs::Follow::after_err, crate::proofs::Follow::chosen, crate::proofs::Follow::not_chosen), unfolding(fi_eval::specs::Outcome::bind))]
 fn by_step<C: Caller>(
     last: &Expr,
     alloc: Global,
@@ -227,7 +227,7 @@ fn by_step<C: Caller>(
 
 // The right operand of an operator, behind the left one, which may decide alone.
 #[cycle(evaluate)]
-#[tactic(auto, using(crate::proofs::Follow::after_err, crate::proofs::Follow::chosen, crate::proofs::Follow::not_chosen), unfolding(fi_eval::specs::Outcome::bind))]
+#[tactic(auto, using(eval_call::proofs::Follow::after_err, crate::proofs::Follow::chosen, crate::proofs::Follow::not_chosen), unfolding(fi_eval::specs::Outcome::bind))]
 fn behind_left<C: Caller>(
     right: &Expr,
     alloc: Global,
@@ -251,7 +251,7 @@ fn behind_left<C: Caller>(
 
 // The right operand of an operator that skips where the left one decides.
 #[cycle(evaluate)]
-#[tactic(auto, using(crate::proofs::Follow::after_err, crate::proofs::Follow::chosen, crate::proofs::Follow::not_chosen), unfolding(fi_eval::specs::Outcome::bind))]
+#[tactic(auto, using(eval_call::proofs::Follow::after_err, crate::proofs::Follow::chosen, crate::proofs::Follow::not_chosen), unfolding(fi_eval::specs::Outcome::bind))]
 fn skipping<C: Caller>(
     right: &Expr,
     alloc: Global,
@@ -276,7 +276,7 @@ fn skipping<C: Caller>(
 
 // The right operand of an operator that skips, behind a left one with this truth, which hasn't decided.
 #[cycle(evaluate)]
-#[tactic(auto, using(crate::proofs::Follow::after_err, crate::proofs::Follow::chosen, crate::proofs::Follow::not_chosen), unfolding(fi_eval::specs::Outcome::bind))]
+#[tactic(auto, using(eval_call::proofs::Follow::after_err, crate::proofs::Follow::chosen, crate::proofs::Follow::not_chosen), unfolding(fi_eval::specs::Outcome::bind))]
 fn deciding_right<C: Caller>(
     right: &Expr,
     alloc: Global,
@@ -297,7 +297,7 @@ fn deciding_right<C: Caller>(
 
 // The right operand of an operator that evaluates both, behind the left one.
 #[cycle(evaluate)]
-#[tactic(auto, using(crate::proofs::Follow::after_err, crate::proofs::Follow::chosen, crate::proofs::Follow::not_chosen), unfolding(fi_eval::specs::Outcome::bind))]
+#[tactic(auto, using(eval_call::proofs::Follow::after_err, crate::proofs::Follow::chosen, crate::proofs::Follow::not_chosen), unfolding(fi_eval::specs::Outcome::bind))]
 fn evaluate_operands<C: Caller>(
     right: &Expr,
     alloc: Global,
@@ -322,7 +322,7 @@ fn evaluate_operands<C: Caller>(
 
 // A bracket.
 #[cycle(evaluate)]
-#[tactic(auto, using(crate::proofs::Follow::after_err, crate::proofs::Follow::chosen, crate::proofs::Follow::not_chosen), unfolding(fi_eval::specs::Outcome::bind))]
+#[tactic(auto, using(eval_call::proofs::Follow::after_err, crate::proofs::Follow::chosen, crate::proofs::Follow::not_chosen), unfolding(fi_eval::specs::Outcome::bind))]
 fn matrix<C: Caller>(
     rows: &[Row],
     alloc: Global,
@@ -342,7 +342,7 @@ fn matrix<C: Caller>(
 
 // The rows of a bracket, from the top.
 #[cycle(evaluate)]
-#[tactic(auto, using(crate::proofs::Follow::after_err, crate::proofs::Follow::chosen, crate::proofs::Follow::not_chosen), unfolding(fi_eval::specs::Outcome::bind))]
+#[tactic(auto, using(eval_call::proofs::Follow::after_err, crate::proofs::Follow::chosen, crate::proofs::Follow::not_chosen), unfolding(fi_eval::specs::Outcome::bind))]
 fn rows_values<C: Caller>(
     rows: &[Row],
     alloc: Global,
@@ -363,7 +363,7 @@ fn rows_values<C: Caller>(
 
 // A row of a bracket.
 #[cycle(evaluate)]
-#[tactic(auto, using(crate::proofs::Follow::after_err, crate::proofs::Follow::chosen, crate::proofs::Follow::not_chosen), unfolding(fi_eval::specs::Outcome::bind))]
+#[tactic(auto, using(eval_call::proofs::Follow::after_err, crate::proofs::Follow::chosen, crate::proofs::Follow::not_chosen), unfolding(fi_eval::specs::Outcome::bind))]
 fn row_values<C: Caller>(
     row: &Row,
     alloc: Global,
@@ -379,7 +379,7 @@ fn row_values<C: Caller>(
 
 // The elements of a row, from left to right.
 #[cycle(evaluate)]
-#[tactic(auto, using(crate::proofs::Follow::after_err, crate::proofs::Follow::chosen, crate::proofs::Follow::not_chosen), unfolding(fi_eval::specs::Outcome::bind))]
+#[tactic(auto, using(eval_call::proofs::Follow::after_err, crate::proofs::Follow::chosen, crate::proofs::Follow::not_chosen), unfolding(fi_eval::specs::Outcome::bind))]
 fn cell_values<C: Caller>(
     cells: &[Expr],
     alloc: Global,
@@ -400,7 +400,7 @@ fn cell_values<C: Caller>(
 
 // A name with parentheses: a read of a variable, or a call.
 #[cycle(evaluate)]
-#[tactic(auto, using(crate::proofs::Follow::after_err, crate::proofs::Follow::chosen, crate::proofs::Follow::not_chosen), unfolding(fi_eval::specs::Outcome::bind))]
+#[tactic(auto, using(eval_call::proofs::Follow::after_err, crate::proofs::Follow::chosen, crate::proofs::Follow::not_chosen), unfolding(fi_eval::specs::Outcome::bind))]
 fn apply<C: Caller>(
     args: &[Arg],
     alloc: Global,
@@ -423,7 +423,7 @@ fn apply<C: Caller>(
 
 // A subscripted read of a variable.
 #[cycle(evaluate)]
-#[tactic(auto, using(crate::proofs::Follow::after_err, crate::proofs::Follow::chosen, crate::proofs::Follow::not_chosen), unfolding(fi_eval::specs::Outcome::bind))]
+#[tactic(auto, using(eval_call::proofs::Follow::after_err, crate::proofs::Follow::chosen, crate::proofs::Follow::not_chosen), unfolding(fi_eval::specs::Outcome::bind))]
 fn read_at<C: Caller>(
     args: &[Arg],
     alloc: Global,
@@ -446,7 +446,7 @@ fn read_at<C: Caller>(
 
 // A call.
 #[cycle(evaluate)]
-#[tactic(auto, using(crate::proofs::Follow::after_err, crate::proofs::Follow::chosen, crate::proofs::Follow::not_chosen), unfolding(fi_eval::specs::Outcome::bind))]
+#[tactic(auto, using(eval_call::proofs::Follow::after_err, crate::proofs::Follow::chosen, crate::proofs::Follow::not_chosen), unfolding(fi_eval::specs::Outcome::bind))]
 fn call_at<C: Caller>(
     args: &[Arg],
     alloc: Global,
@@ -467,7 +467,7 @@ fn call_at<C: Caller>(
 
 /// The arguments of a call, from left to right. Wrong at its place where one is `:`.
 #[cycle(evaluate)]
-#[tactic(auto, using(crate::proofs::Follow::after_err, crate::proofs::Follow::chosen, crate::proofs::Follow::not_chosen), unfolding(fi_eval::specs::Outcome::bind))]
+#[tactic(auto, using(eval_call::proofs::Follow::after_err, crate::proofs::Follow::chosen, crate::proofs::Follow::not_chosen), unfolding(fi_eval::specs::Outcome::bind))]
 pub fn arguments<C: Caller>(
     args: &[Arg],
     alloc: Global,
@@ -489,7 +489,7 @@ pub fn arguments<C: Caller>(
 
 /// The values of so many subscripts of a variable, from left to right, none for `:`. In them `end` is an extent of the variable.
 #[cycle(evaluate)]
-#[tactic(auto, using(crate::proofs::Follow::after_err, crate::proofs::Follow::chosen, crate::proofs::Follow::not_chosen), unfolding(fi_eval::specs::Outcome::bind))]
+#[tactic(auto, using(eval_call::proofs::Follow::after_err, crate::proofs::Follow::chosen, crate::proofs::Follow::not_chosen), unfolding(fi_eval::specs::Outcome::bind))]
 pub fn subscript_values<C: Caller>(
     args: &[Arg],
     alloc: Global,
@@ -513,7 +513,7 @@ pub fn subscript_values<C: Caller>(
 
 // The value of an argument or a subscript, none for `:`.
 #[cycle(evaluate)]
-#[tactic(auto, using(crate::proofs::Follow::after_err, crate::proofs::Follow::chosen, crate::proofs::Follow::not_chosen), unfolding(fi_eval::specs::Outcome::bind))]
+#[tactic(auto, using(eval_call::proofs::Follow::after_err, crate::proofs::Follow::chosen, crate::proofs::Follow::not_chosen), unfolding(fi_eval::specs::Outcome::bind))]
 fn item<C: Caller>(
     arg: &Arg,
     alloc: Global,

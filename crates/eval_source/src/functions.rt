@@ -76,7 +76,7 @@ pub fn with_name(alloc: Global, name: &[u8], names: &[Text]) -> Result<Vec<Text>
 }
 
 /// Runs the body of a function, whose own calls go by the caller, from variables with values.
-#[tactic(auto, using(crate::proofs::Follow::after_err, crate::proofs::Follow::chosen, crate::proofs::Follow::not_chosen), unfolding(fi_eval::specs::Outcome::bind, fi_eval::specs::Outcome::choose))]
+#[tactic(auto, using(eval_call::proofs::Follow::after_err, crate::proofs::Follow::chosen, crate::proofs::Follow::not_chosen), unfolding(fi_eval::specs::Outcome::bind, fi_eval::specs::Outcome::choose))]
 pub fn run_body<C: Caller>(
     f: &Func,
     alloc: Global,
@@ -99,7 +99,7 @@ pub fn run_body<C: Caller>(
 }
 
 /// The variables behind the body of a function on these inputs. Wrong at the place where the number of values isn't that of its inputs.
-#[tactic(auto, using(crate::proofs::Follow::after_err, crate::proofs::Follow::chosen, crate::proofs::Follow::not_chosen), unfolding(fi_eval::specs::Outcome::bind, fi_eval::specs::Outcome::choose))]
+#[tactic(auto, using(eval_call::proofs::Follow::after_err, crate::proofs::Follow::chosen, crate::proofs::Follow::not_chosen), unfolding(fi_eval::specs::Outcome::bind, fi_eval::specs::Outcome::choose))]
 pub fn run_on<C: Caller>(
     f: &Func,
     alloc: Global,
@@ -118,7 +118,7 @@ pub fn run_on<C: Caller>(
 }
 
 /// What a function does on values: its outputs, each of which has to have a value. Wrong at the place where the number of values isn't that of its inputs.
-#[tactic(auto, using(crate::proofs::Follow::after_err, crate::proofs::Follow::chosen, crate::proofs::Follow::not_chosen), unfolding(fi_eval::specs::Outcome::bind, fi_eval::specs::Outcome::choose))]
+#[tactic(auto, using(eval_call::proofs::Follow::after_err, crate::proofs::Follow::chosen, crate::proofs::Follow::not_chosen), unfolding(fi_eval::specs::Outcome::bind, fi_eval::specs::Outcome::choose))]
 pub fn function_outputs<C: Caller>(
     f: &Func,
     alloc: Global,
@@ -142,7 +142,7 @@ fn outputs_of(f: &Func, alloc: Global, names: Variables) -> Result<Vec<Value>, H
 }
 
 // The values of outputs; wrong at the first that has none.
-#[tactic(auto, using(crate::proofs::Follow::after_err, crate::proofs::Follow::chosen, crate::proofs::Follow::not_chosen), unfolding(fi_eval::specs::Outcome::bind, fi_eval::specs::Outcome::choose))]
+#[tactic(auto, using(eval_call::proofs::Follow::after_err, crate::proofs::Follow::chosen, crate::proofs::Follow::not_chosen), unfolding(fi_eval::specs::Outcome::bind, fi_eval::specs::Outcome::choose))]
 fn given_outputs(alloc: Global, outputs: &[Ident], names: &Variables) -> Result<Vec<Value>, Halt>
     ensures { Tells result row_view (functions.given_outputs outputs.now (env_view names.now)) }
 {
@@ -184,7 +184,7 @@ fn first_values(alloc: Global, values: &[Value], wanted: usize) -> Result<Vec<Va
 }
 
 /// The values of an entry's outputs: fis, logical values and numbers. Wrong at the first that has no value or is of another class.
-#[tactic(auto, using(crate::proofs::Follow::after_err, crate::proofs::Follow::chosen, crate::proofs::Follow::not_chosen), unfolding(fi_eval::specs::Outcome::bind, fi_eval::specs::Outcome::choose))]
+#[tactic(auto, using(eval_call::proofs::Follow::after_err, crate::proofs::Follow::chosen, crate::proofs::Follow::not_chosen), unfolding(fi_eval::specs::Outcome::bind, fi_eval::specs::Outcome::choose))]
 pub fn entry_outputs(
     alloc: Global,
     outputs: &[Ident],
@@ -201,7 +201,7 @@ pub fn entry_outputs(
 }
 
 // The value of an entry's output.
-#[tactic(auto, using(crate::proofs::Follow::after_err, crate::proofs::Follow::chosen, crate::proofs::Follow::not_chosen), unfolding(fi_eval::specs::Outcome::bind, fi_eval::specs::Outcome::choose))]
+#[tactic(auto, using(eval_call::proofs::Follow::after_err, crate::proofs::Follow::chosen, crate::proofs::Follow::not_chosen), unfolding(fi_eval::specs::Outcome::bind, fi_eval::specs::Outcome::choose))]
 fn entry_output(alloc: Global, names: &Variables, at: Place, name: &[u8]) -> Result<Value, Halt>
     ensures { Tells result value_view (bind (variable (env_view names.now) at name.now) (functions.entry_output at)) }
 {

@@ -43,7 +43,7 @@ pub fn truth_of(at: Place, value: Boxed<Value>) -> Result<bool, Halt>
 }
 
 /// Whether a condition holds.
-#[tactic(auto, using(crate::proofs::Follow::after_err), unfolding(fi_eval::specs::Outcome::bind))]
+#[tactic(auto, using(eval_call::proofs::Follow::after_err), unfolding(fi_eval::specs::Outcome::bind))]
 pub fn holds<C: Caller>(
     e: &Expr,
     alloc: Global,
@@ -130,7 +130,7 @@ fn step_of<C: Caller>(
 }
 
 /// The items of the range in the head of a loop, whose variable stands at `to`; another expression is no range.
-#[tactic(auto, using(crate::proofs::Follow::after_err), unfolding(fi_eval::specs::Outcome::bind, fi_meaning::specs::Statements::loop_items))]
+#[tactic(auto, using(eval_call::proofs::Follow::after_err), unfolding(fi_eval::specs::Outcome::bind, fi_meaning::specs::Statements::loop_items))]
 pub fn loop_items<C: Caller>(
     range: &Expr,
     alloc: Global,

@@ -31,7 +31,7 @@ use sqlite_items::Boxed;
 use std::alloc::Global;
 
 /// The constant of a literal; imaginary ones are complex. Wrong at the place where it is none.
-#[tactic(auto, using(crate::proofs::Follow::after_ok, crate::proofs::Follow::after_err), unfolding(fi_eval::specs::Outcome::bind))]
+#[tactic(auto, using(eval_call::proofs::Follow::after_ok, eval_call::proofs::Follow::after_err), unfolding(fi_eval::specs::Outcome::bind))]
 pub fn number_value(
     alloc: Global,
     at: Place,
@@ -203,7 +203,7 @@ pub fn called<C: Caller>(
 }
 
 // A call of a function of the file for one output.
-#[tactic(auto, using(crate::proofs::Follow::after_ok, crate::proofs::Follow::after_err))]
+#[tactic(auto, using(eval_call::proofs::Follow::after_ok, eval_call::proofs::Follow::after_err))]
 fn called_function<C: Caller>(
     alloc: Global,
     caller: &C,

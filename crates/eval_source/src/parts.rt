@@ -43,7 +43,7 @@ fn settled(alloc: Global, at: Place, found: Option<Value>) -> Result<Boxed<Value
 }
 
 /// A sign, or `~`, before a value.
-#[tactic(auto, using(crate::proofs::Follow::known))]
+#[tactic(auto, using(eval_call::proofs::Follow::known))]
 pub fn sign_value(
     alloc: Global,
     at: Place,
@@ -57,7 +57,7 @@ pub fn sign_value(
 }
 
 /// A transpose.
-#[tactic(auto, using(crate::proofs::Follow::known))]
+#[tactic(auto, using(eval_call::proofs::Follow::known))]
 pub fn transposed_value(
     alloc: Global,
     at: Place,
@@ -71,7 +71,7 @@ pub fn transposed_value(
 }
 
 /// A range.
-#[tactic(auto, using(crate::proofs::Follow::known))]
+#[tactic(auto, using(eval_call::proofs::Follow::known))]
 pub fn range_value(
     alloc: Global,
     at: Place,
@@ -108,7 +108,7 @@ pub fn unit_range(
 }
 
 /// A bracket of rows of values.
-#[tactic(auto, using(crate::proofs::Follow::known))]
+#[tactic(auto, using(eval_call::proofs::Follow::known))]
 pub fn bracket_value(alloc: Global, at: Place, rows: Vec<Vec<Value>>) -> Result<Boxed<Value>, Halt>
     ensures { Tells result value_view (or_wrong at (brackets.bracket (map row_view rows.items))) }
 {
@@ -117,7 +117,7 @@ pub fn bracket_value(alloc: Global, at: Place, rows: Vec<Vec<Value>>) -> Result<
 }
 
 /// An operator between two values.
-#[tactic(auto, using(crate::proofs::Follow::known))]
+#[tactic(auto, using(eval_call::proofs::Follow::known))]
 pub fn pair_value(
     alloc: Global,
     at: Place,

@@ -25,7 +25,7 @@ use mat_ast::{Arm, Expr, Ident, Stmt};
 use std::alloc::Global;
 
 /// A statement, with at most so many turns of each `while`. Halts exactly as the definition says; want of memory is the free answer.
-#[tactic(auto, using(crate::proofs::Follow::after_err, crate::proofs::Follow::chosen, crate::proofs::Follow::not_chosen), unfolding(fi_eval::specs::Outcome::bind, fi_eval::specs::Outcome::choose))]
+#[tactic(auto, using(eval_call::proofs::Follow::after_err, crate::proofs::Follow::chosen, crate::proofs::Follow::not_chosen), unfolding(fi_eval::specs::Outcome::bind, fi_eval::specs::Outcome::choose))]
 #[cycle(run)]
 pub fn run<C: Caller>(
     s: &Stmt,
@@ -104,7 +104,7 @@ pub fn run<C: Caller>(
 }
 
 /// The statements of a block, up to one that leaves it.
-#[tactic(auto, using(crate::proofs::Follow::after_err, crate::proofs::Follow::chosen, crate::proofs::Follow::not_chosen), unfolding(fi_eval::specs::Outcome::bind, fi_eval::specs::Outcome::choose))]
+#[tactic(auto, using(eval_call::proofs::Follow::after_err, crate::proofs::Follow::chosen, crate::proofs::Follow::not_chosen), unfolding(fi_eval::specs::Outcome::bind, fi_eval::specs::Outcome::choose))]
 #[cycle(run)]
 pub fn run_block<C: Caller>(
     body: &[Stmt],
@@ -126,7 +126,7 @@ pub fn run_block<C: Caller>(
 }
 
 // The first arm of an `if` that holds; none where none does.
-#[tactic(auto, using(crate::proofs::Follow::after_err, crate::proofs::Follow::chosen, crate::proofs::Follow::not_chosen), unfolding(fi_eval::specs::Outcome::bind, fi_eval::specs::Outcome::choose))]
+#[tactic(auto, using(eval_call::proofs::Follow::after_err, crate::proofs::Follow::chosen, crate::proofs::Follow::not_chosen), unfolding(fi_eval::specs::Outcome::bind, fi_eval::specs::Outcome::choose))]
 #[cycle(run)]
 fn first_arm<C: Caller>(
     arms: &[Arm],
@@ -148,7 +148,7 @@ fn first_arm<C: Caller>(
 }
 
 // An arm of an `if`; none where its condition doesn't hold.
-#[tactic(auto, using(crate::proofs::Follow::after_err, crate::proofs::Follow::chosen, crate::proofs::Follow::not_chosen), unfolding(fi_eval::specs::Outcome::bind, fi_eval::specs::Outcome::choose))]
+#[tactic(auto, using(eval_call::proofs::Follow::after_err, crate::proofs::Follow::chosen, crate::proofs::Follow::not_chosen), unfolding(fi_eval::specs::Outcome::bind, fi_eval::specs::Outcome::choose))]
 #[cycle(run)]
 fn try_arm<C: Caller>(
     arm: &Arm,
@@ -169,7 +169,7 @@ fn try_arm<C: Caller>(
 }
 
 // A `for`. Its variable is known in the body alone.
-#[tactic(auto, using(crate::proofs::Follow::after_err, crate::proofs::Follow::chosen, crate::proofs::Follow::not_chosen), unfolding(fi_eval::specs::Outcome::bind, fi_eval::specs::Outcome::choose))]
+#[tactic(auto, using(eval_call::proofs::Follow::after_err, crate::proofs::Follow::chosen, crate::proofs::Follow::not_chosen), unfolding(fi_eval::specs::Outcome::bind, fi_eval::specs::Outcome::choose))]
 #[cycle(run)]
 fn for_each<C: Caller>(
     body: &[Stmt],
@@ -199,7 +199,7 @@ fn for_each<C: Caller>(
 }
 
 // The turns of a `for`.
-#[tactic(auto, using(crate::proofs::Follow::after_err, crate::proofs::Follow::chosen, crate::proofs::Follow::not_chosen), unfolding(fi_eval::specs::Outcome::bind, fi_eval::specs::Outcome::choose))]
+#[tactic(auto, using(eval_call::proofs::Follow::after_err, crate::proofs::Follow::chosen, crate::proofs::Follow::not_chosen), unfolding(fi_eval::specs::Outcome::bind, fi_eval::specs::Outcome::choose))]
 #[cycle(run)]
 fn for_items<C: Caller>(
     body: &[Stmt],
@@ -223,7 +223,7 @@ fn for_items<C: Caller>(
 }
 
 // A turn of a `for`.
-#[tactic(auto, using(crate::proofs::Follow::after_err, crate::proofs::Follow::chosen, crate::proofs::Follow::not_chosen), unfolding(fi_eval::specs::Outcome::bind, fi_eval::specs::Outcome::choose))]
+#[tactic(auto, using(eval_call::proofs::Follow::after_err, crate::proofs::Follow::chosen, crate::proofs::Follow::not_chosen), unfolding(fi_eval::specs::Outcome::bind, fi_eval::specs::Outcome::choose))]
 #[cycle(run)]
 fn take_turn<C: Caller>(
     body: &[Stmt],
@@ -245,7 +245,7 @@ fn take_turn<C: Caller>(
 }
 
 // A `while`.
-#[tactic(auto, using(crate::proofs::Follow::after_err, crate::proofs::Follow::chosen, crate::proofs::Follow::not_chosen), unfolding(fi_eval::specs::Outcome::bind, fi_eval::specs::Outcome::choose))]
+#[tactic(auto, using(eval_call::proofs::Follow::after_err, crate::proofs::Follow::chosen, crate::proofs::Follow::not_chosen), unfolding(fi_eval::specs::Outcome::bind, fi_eval::specs::Outcome::choose))]
 #[cycle(run)]
 fn while_true<C: Caller>(
     body: &[Stmt],
@@ -269,7 +269,7 @@ fn while_true<C: Caller>(
 }
 
 // A turn of a `while`: out of the loop where the condition doesn't hold.
-#[tactic(auto, using(crate::proofs::Follow::after_err, crate::proofs::Follow::chosen, crate::proofs::Follow::not_chosen), unfolding(fi_eval::specs::Outcome::bind, fi_eval::specs::Outcome::choose))]
+#[tactic(auto, using(eval_call::proofs::Follow::after_err, crate::proofs::Follow::chosen, crate::proofs::Follow::not_chosen), unfolding(fi_eval::specs::Outcome::bind, fi_eval::specs::Outcome::choose))]
 #[cycle(run)]
 fn while_holds<C: Caller>(
     body: &[Stmt],
@@ -291,7 +291,7 @@ fn while_holds<C: Caller>(
 }
 
 // The test behind the last turn that is allowed: past the bound where it holds once more.
-#[tactic(auto, using(crate::proofs::Follow::after_err, crate::proofs::Follow::chosen, crate::proofs::Follow::not_chosen), unfolding(fi_eval::specs::Outcome::bind, fi_eval::specs::Outcome::choose))]
+#[tactic(auto, using(eval_call::proofs::Follow::after_err, crate::proofs::Follow::chosen, crate::proofs::Follow::not_chosen), unfolding(fi_eval::specs::Outcome::bind, fi_eval::specs::Outcome::choose))]
 fn last_test<C: Caller>(
     alloc: Global,
     scope: &Scope<'_>,

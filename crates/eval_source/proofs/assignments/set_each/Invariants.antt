@@ -1,4 +1,4 @@
-use Rattle.std.proofs.Common.{◌≡◌, map, drop, length}
+use Rattle.std.proofs.Common.{◌≡◌, map, drop}
 use Rattle.fi_meaning.specs.Environment.{under_names}
 use Rattle.eval_value.specs.View.{value_view}
 use Rattle.eval_source.specs.View.{env_view}

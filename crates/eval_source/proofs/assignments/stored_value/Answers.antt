@@ -9,7 +9,8 @@ use Rattle.eval_value.specs.Tells.{Tells}
 use Rattle.eval_value.specs.View.{item_view, value_view}
 use Rattle.eval_value.specs.declared.halt.Halt.TheVariants as halt
 use Rattle.eval_source.specs.View.{context_of, env_view}
-use Rattle.eval_source.proofs.Follow.{after_err, no_value}
+use Rattle.eval_call.proofs.Follow.{after_err}
+use Rattle.eval_source.proofs.Follow.{no_value}
 use Rattle.eval_source.proofs.Targets.{has_some, store_stops, store_goes}
 use Rattle.eval_source.proofs.assignments.stored_value.Goals as goal
 

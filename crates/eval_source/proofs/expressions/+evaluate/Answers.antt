@@ -1,11 +1,9 @@
-use Rattle.std.proofs.Common.{◌≡◌, ◌+◌, suc, [], ◌∷◌, ◌++◌, length, map, drop, Some, None, Err, refl, sym, ap, subst, ◌∙◌, arith}
+use Rattle.std.proofs.Common.{◌≡◌, ◌+◌, suc, [], ◌∷◌, ◌++◌, length, map, drop, Some, sym, ap, ◌∙◌, arith}
 use Rattle.std.proofs.lemmas.Result.{err_from_is_err_and}
 use Rattle.std.proofs.lemmas.Grind.{common_steps}
-use Rattle.mat_ast.specs.View.{args_of, args_view, arg_view, expr_view, row_of, row_view, rows_view}
-use Rattle.mat_ast.specs.declared.tree.ExprKind.TheVariants as kind
+use Rattle.mat_ast.specs.View.{args_of, args_view, arg_view, expr_view}
 use Rattle.fi_eval.specs.Outcome.{Gives, ◌>>=◌}
 use Rattle.fi_meaning.specs.Expressions as meaning
-use Rattle.eval_value.specs.View as values
 use Rattle.eval_value.specs.View.{item_view, value_view}
 use Rattle.eval_source.specs.View.{context_of, env_view}
 use Rattle.walk_scope.proofs.Lefts.{left_at}
@@ -15,7 +13,7 @@ use Rattle.fi_values.specs.Reads.{shape_of}
 use Rattle.fi_values.specs.Subscripts.{extent}
 use Rattle.eval_call.specs.View.{argument_view}
 use Rattle.eval_source.proofs.Lists.{goes, stops, subscript_first, none_passed, argument_goes, argument_first, onward}
-use Rattle.eval_source.proofs.Steps.{stepped, operands_told, skipping_told, skip_decided, skip_right, item_stops, item_passes, item_all}
+use Rattle.eval_source.proofs.Steps.{operands_told, skipping_told, skip_decided, skip_right, item_stops, item_passes, item_all}
 use Rattle.eval_source.proofs.expressions.+evaluate.Goals as goal
 
 pub behind_left-returns-in-None : goal.behind_left-returns-in-None

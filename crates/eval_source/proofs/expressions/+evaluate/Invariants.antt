@@ -1,4 +1,4 @@
-use Rattle.std.proofs.Common.{◌≡◌, [], ◌++◌, map, drop, length, false}
+use Rattle.std.proofs.Common.{◌≡◌, ◌++◌, map, drop, length}
 use Rattle.mat_ast.specs.View.{args_view, expr_view, row_of, rows_view}
 use Rattle.fi_eval.specs.Outcome.{Gives, ◌>>=◌}
 use Rattle.fi_meaning.specs.Expressions as meaning

@@ -1,4 +1,4 @@
-use Rattle.std.proofs.Common.{◌≡◌, ◌+◌, drop, sym, ap, ◌∙◌}
+use Rattle.std.proofs.Common.{◌+◌, drop, sym, ap, ◌∙◌}
 use Rattle.fi_eval.specs.Outcome.{◌>>=◌}
 use Rattle.fi_meaning.specs.Environment.{variable}
 use Rattle.fi_meaning.specs.Meaning as functions

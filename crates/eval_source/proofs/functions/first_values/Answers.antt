@@ -1,4 +1,4 @@
-use Rattle.std.proofs.Common.{◌<◌, ◌≤◌, length, map, drop, ◌∙◌, arith}
+use Rattle.std.proofs.Common.{◌<◌, ◌≤◌, length, map, drop, arith}
 use Rattle.fi_meaning.specs.Meaning.{first_outputs}
 use Rattle.eval_value.specs.View.{value_view}
 use Rattle.walk_scope.proofs.Lefts.{left_at}

@@ -7,7 +7,8 @@ use Rattle.eval_value.specs.View.{item_view, value_view}
 use Rattle.eval_value.specs.declared.halt.Halt.TheVariants as halt
 use Rattle.fi_meaning.specs.Expressions.{site_of}
 use Rattle.eval_source.specs.View.{env_view}
-use Rattle.eval_source.proofs.Follow.{after_ok, after_err, no_value, has_value}
+use Rattle.eval_call.proofs.Follow.{after_ok, after_err}
+use Rattle.eval_source.proofs.Follow.{no_value, has_value}
 use Rattle.eval_source.proofs.parts.read_value.Goals as goal
 
 pub returns-in-None : goal.returns-in-None

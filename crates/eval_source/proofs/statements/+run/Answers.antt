@@ -1,16 +1,15 @@
-use Rattle.std.proofs.Common.{◌≡◌, ◌+◌, ◌-◌, ◌<◌, map, drop, Some, None, Err, sym, ap, subst, ◌∙◌, arith}
+use Rattle.std.proofs.Common.{◌+◌, ◌-◌, ◌<◌, map, drop, Some, sym, ap, subst, ◌∙◌, arith}
 use Rattle.std.specs.Prelude.{pos, ◌+ℤ◌, ◌*ℤ◌}
 use Rattle.std.proofs.lemmas.Result.{err_from_is_err_and}
 use Rattle.mat_ast.specs.View.{arm_view, arms_view, block_view, expr_view, stmt_view}
 use Rattle.mat_ast.specs.declared.tree.Stmt.TheVariants as stmt
-use Rattle.fi_eval.specs.Outcome.{Gives}
 use Rattle.fi_values.specs.Elements.{count_from}
-use Rattle.fi_meaning.specs.Environment.{Went, forgotten, then_do, turned}
+use Rattle.fi_meaning.specs.Environment.{forgotten, turned}
 use Rattle.fi_meaning.specs.Expressions.{looped}
 use Rattle.fi_meaning.specs.Statements as statements
 use Rattle.eval_value.specs.Tells.{Tells}
 use Rattle.eval_array.specs.Ranged.{items_view}
-use Rattle.eval_source.specs.Flows.{armed, armed_view, flow_view, for_turn, next_arm, one_arm, or_else, while_turn}
+use Rattle.eval_source.specs.Flows.{armed, armed_view, flow_view, for_turn, one_arm, or_else, while_turn}
 use Rattle.eval_source.specs.View.{context_of, env_view}
 use Rattle.walk_scope.proofs.Lefts.{left_at}
 use Rattle.eval_source.proofs.Bodies.{store_view, for_view}
