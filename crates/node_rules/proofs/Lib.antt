@@ -22,3 +22,4 @@ pub mod BitRows
 pub mod Parted
 pub mod Queries
 pub mod PartedRows
+pub mod TextRows

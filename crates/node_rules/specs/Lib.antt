@@ -19,3 +19,4 @@ pub mod Ranges
 pub mod Bits
 pub mod Parted
 pub mod Queries
+pub mod Texts
