@@ -23,3 +23,5 @@ pub mod Parted
 pub mod Queries
 pub mod PartedRows
 pub mod TextRows
+pub mod Built
+pub mod BuiltRows

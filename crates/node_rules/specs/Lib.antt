@@ -20,3 +20,4 @@ pub mod Bits
 pub mod Parted
 pub mod Queries
 pub mod Texts
+pub mod Built

@@ -3,7 +3,7 @@
 //! type of its result, and the value of its node at that type. Laws: evaluation goes by these rules.
 #![tactic(auto)]
 
-ghost use Rattle.std.specs.Prelude.{◌≡◌, ◌<◌, ◌^◌, ℕ, ℤ, List, Option, Some, true, nat_abs};
+ghost use Rattle.std.specs.Prelude.{◌≡◌, ◌<◌, ◌^◌, ℕ, ℤ, List, map, Option, Some, true, nat_abs};
 ghost use Rattle.fic_base.specs.declared.place.Place.{Place};
 ghost use Rattle.mat_ast.specs.declared.tree.BinOp.{BinOp};
 ghost use Rattle.mat_ast.specs.declared.tree.PostOp.{PostOp};
@@ -19,7 +19,8 @@ ghost use Rattle.fi_values.specs.Queries.{real_part, imaginary_part, complex_of,
 ghost use Rattle.fi_values.specs.Ranges.{ranged};
 ghost use Rattle.fi_values.specs.Sums.{Along, summed_value};
 ghost use Rattle.fi_values.specs.Transposes.{transposed};
-ghost use Rattle.fi_meaning.specs.Functions.{natural, conjugate_of};
+ghost use Rattle.fi_meaning.specs.Functions as functions;
+ghost use Rattle.fi_meaning.specs.Functions.{Function, natural, conjugate_of};
 ghost use Rattle.fi_meaning.specs.Operators.{by_operator, by_sign};
 ghost use Rattle.node_rules.specs.Agrees.{Tells, evaluated_read, evaluated_store};
 ghost use Rattle.node_rules.specs.Bits.{bits_paired, paired_value, complemented_ruled, complemented_value, shifted_ruled, shifted_value, sliced_ruled, sliced_value};
@@ -29,6 +30,7 @@ ghost use Rattle.node_rules.specs.Pairs.{Span, IsIn, span_worked, items_worked, 
 ghost use Rattle.node_rules.specs.Parted.{part_ruled, real_value, imaginary_value, conjugate_ruled, conjugate_value, complex_ruled, complex_value};
 ghost use Rattle.node_rules.specs.Queries.{numel_ruled, length_ruled, size_ruled};
 ghost use Rattle.node_rules.specs.Ranges.{range_ruled, range_value};
+ghost use Rattle.node_rules.specs.Built.{has_rule, function_ruled, function_value};
 ghost use Rattle.node_rules.specs.Ruled.{Fine, given};
 ghost use Rattle.node_rules.specs.Signs.{sign_ruled, sign_value};
 ghost use Rattle.node_rules.specs.Stores.{store_ruled, store_value};
@@ -126,4 +128,10 @@ pub fn queries_go_by_their_rules()
     ensures numel { (v : Val) → element_count v ≡ given (numel_ruled (ty_of v)) known }
     ensures length { (v : Val) → greater_extent v ≡ given (length_ruled (ty_of v)) known }
     ensures size { (v d : Val) → (natural d |> (λ n. extent_of n v)) ≡ given (size_ruled (ty_of v) (ty_of d)) known }
+{}
+
+/// A call of a built-in function gives what its rule says, with any number of arguments: a value exactly where it has as many as the function
+/// takes and the conditions of the rule hold on their types, the one at the type of the node.
+pub fn built_in_functions_go_by_their_rules()
+    ensures { (f : Function) (vs : List Val) → has_rule f ≡ true → functions.given f vs ≡ given (function_ruled f (map ty_of vs)) (λ t. function_value f t vs) }
 {}

@@ -1,0 +1,106 @@
+-- Calls of built-in functions go by their rules.
+use Rattle.std.proofs.Common.{◌≡◌, ℕ, refl, sym, ap, subst, ◌∙◌, true, List, [], ◌∷◌, map}
+use Rattle.std.specs.Prelude.{Some}
+use Rattle.fi_ops.specs.Bits.{left_shifted, right_shifted, sign_shifted, anded, ored, xored}
+use Rattle.fi_rules.specs.Options.{◌|>◌, and_then}
+use Rattle.fi_rules.specs.Value.{Val, Fi, ComplexFi}
+use Rattle.fi_values.specs.Sums.{Along, first_along, summed_value}
+use Rattle.fi_meaning.specs.Functions as functions
+use Rattle.fi_meaning.specs.Functions.{Function, Filled, Numel, Length, Size, Truth, Real, Imag, Conj, Complex, Sum, BitAnd, BitOr, BitXor, BitCmp, BitShiftLeft, BitShiftRight, BitShiftSign, BitConcat, BitSlice, along, shape_of_fi, natural}
+use Rattle.node_rules.specs.Built.{has_rule, fi_shape, first_sum_ruled, sum_along_ruled, shape_or, along_or, first_of, along_in, function_ruled, function_value}
+use Rattle.node_rules.specs.Sums.{sum_ruled, sum_value}
+use Rattle.node_rules.specs.Types.{ty_of}
+use Rattle.node_rules.proofs.Binds.{fine_needed, then_then}
+use Rattle.node_rules.proofs.Bits.{fine_natural, paired_law, complemented_law, shifted_law, sliced_law}
+use Rattle.node_rules.proofs.Goes.{Goes, goes, stops, by, goes_then}
+use Rattle.node_rules.proofs.Parted.{real_law, imaginary_law, conjugate_law, complex_law}
+use Rattle.node_rules.proofs.Queries.{numel_law, length_law, size_law}
+use Rattle.node_rules.proofs.Signs.{sum_law}
+
+shape_is : (v : Val) → fi_shape (ty_of v) ≡ shape_of_fi v
+unfolding fi_shape ty_of
+shape_is (Fi t m s xs) = refl
+shape_is (ComplexFi t m s xs ys) = refl
+shape_is v = refl
+
+first_sum_law : (v : Val) → Goes (λ t. sum_value (first_of v) t v) (shape_of_fi v |> (λ s. summed_value (first_along s) v)) (first_sum_ruled (ty_of v))
+unfolding shape_or
+first_sum_law v =
+    goes_then _ _ _ (shape_of_fi v) (fine_needed _ _ _ ∙ shape_is v) (λ s h.
+    rw h (sum_law (first_along s) v))
+
+along_is : (d : Val) (n : ℕ) (a : Along) → natural d ≡ Some n → along n ≡ Some a → along_in d ≡ a
+unfolding along_or and_then
+along_is d n a g h = ap (λ o. along_or (o |> along)) g ∙ ap along_or h
+
+sum_along_law : (v d : Val) → Goes (λ t. sum_value (along_in d) t v) (natural d |> along |> (λ a. summed_value a v)) (sum_along_ruled (ty_of v) (ty_of d))
+sum_along_law v d =
+    by _ (then_then (natural d) along (λ a. summed_value a v))
+    (goes_then _ _ _ (natural d) (fine_natural d) (λ n g. goes_then _ _ _ (along n) (fine_needed _ _ _) (λ a h.
+    subst (λ x. Goes (λ t. sum_value x t v) (summed_value a v) (sum_ruled a (ty_of v))) (sym (along_is d n a g h)) (sum_law a v))))
+
+pub function_law : (f : Function) (vs : List Val) → has_rule f ≡ true → Goes (λ t. function_value f t vs) (functions.given f vs) (function_ruled f (map ty_of vs))
+unfolding has_rule function_ruled function_value functions.given ty_of
+function_law (Filled c) vs h = absurd (cc)
+function_law BitConcat vs h = absurd (cc)
+function_law Numel [] h = stops _ _
+function_law Numel (v ∷ []) h = numel_law v
+function_law Numel (v ∷ w ∷ more) h = stops _ _
+function_law Length [] h = stops _ _
+function_law Length (v ∷ []) h = length_law v
+function_law Length (v ∷ w ∷ more) h = stops _ _
+function_law Size [] h = stops _ _
+function_law Size (v ∷ []) h = stops _ _
+function_law Size (v ∷ d ∷ []) h = size_law v d
+function_law Size (v ∷ d ∷ w ∷ more) h = stops _ _
+function_law (Truth b) [] h = goes _ refl
+function_law (Truth b) (v ∷ more) h = stops _ _
+function_law Real [] h = stops _ _
+function_law Real (v ∷ []) h = real_law v
+function_law Real (v ∷ w ∷ more) h = stops _ _
+function_law Imag [] h = stops _ _
+function_law Imag (v ∷ []) h = imaginary_law v
+function_law Imag (v ∷ w ∷ more) h = stops _ _
+function_law Conj [] h = stops _ _
+function_law Conj (v ∷ []) h = conjugate_law v
+function_law Conj (v ∷ w ∷ more) h = stops _ _
+function_law Complex [] h = stops _ _
+function_law Complex (v ∷ []) h = stops _ _
+function_law Complex (v ∷ w ∷ []) h = complex_law v w
+function_law Complex (v ∷ w ∷ x ∷ more) h = stops _ _
+function_law Sum [] h = stops _ _
+function_law Sum (v ∷ []) h = first_sum_law v
+function_law Sum (v ∷ d ∷ []) h = sum_along_law v d
+function_law Sum (v ∷ d ∷ w ∷ more) h = stops _ _
+function_law BitAnd [] h = stops _ _
+function_law BitAnd (v ∷ []) h = stops _ _
+function_law BitAnd (v ∷ w ∷ []) h = paired_law anded v w
+function_law BitAnd (v ∷ w ∷ x ∷ more) h = stops _ _
+function_law BitOr [] h = stops _ _
+function_law BitOr (v ∷ []) h = stops _ _
+function_law BitOr (v ∷ w ∷ []) h = paired_law ored v w
+function_law BitOr (v ∷ w ∷ x ∷ more) h = stops _ _
+function_law BitXor [] h = stops _ _
+function_law BitXor (v ∷ []) h = stops _ _
+function_law BitXor (v ∷ w ∷ []) h = paired_law xored v w
+function_law BitXor (v ∷ w ∷ x ∷ more) h = stops _ _
+function_law BitCmp [] h = stops _ _
+function_law BitCmp (v ∷ []) h = complemented_law v
+function_law BitCmp (v ∷ w ∷ more) h = stops _ _
+function_law BitShiftLeft [] h = stops _ _
+function_law BitShiftLeft (v ∷ []) h = stops _ _
+function_law BitShiftLeft (v ∷ k ∷ []) h = shifted_law left_shifted v k
+function_law BitShiftLeft (v ∷ k ∷ x ∷ more) h = stops _ _
+function_law BitShiftRight [] h = stops _ _
+function_law BitShiftRight (v ∷ []) h = stops _ _
+function_law BitShiftRight (v ∷ k ∷ []) h = shifted_law right_shifted v k
+function_law BitShiftRight (v ∷ k ∷ x ∷ more) h = stops _ _
+function_law BitShiftSign [] h = stops _ _
+function_law BitShiftSign (v ∷ []) h = stops _ _
+function_law BitShiftSign (v ∷ k ∷ []) h = shifted_law sign_shifted v k
+function_law BitShiftSign (v ∷ k ∷ x ∷ more) h = stops _ _
+function_law BitSlice [] h = stops _ _
+function_law BitSlice (v ∷ []) h = stops _ _
+function_law BitSlice (v ∷ l ∷ []) h = stops _ _
+function_law BitSlice (v ∷ l ∷ r ∷ []) h = sliced_law v l r
+function_law BitSlice (v ∷ l ∷ r ∷ x ∷ more) h = stops _ _
