@@ -5,22 +5,11 @@ use Rattle.std.specs.Prelude.{bytes_eq}
 use Rattle.std.specs.Global.{Vec}
 use Rattle.std.specs.HashMap as hash
 use Rattle.std.specs.HashMap.{HashMap}
-use Rattle.std.specs.Map.{lookup, IsKeyTest, AreApart, KeepsOthers}
 use Rattle.std.specs.Cmp.Lexicographic.{bytes_decides, nat_list_eq_equiv}
 use Rattle.std.proofs.lemmas.Bool.{cases_Bool}
+use Rattle.fic_base.proofs.Tables.{apart, others, is_key}
 use Rattle.c_grammar.specs.declared.word.CWordToken.{CWordToken}
 use Rattle.c_word.specs.Table.{with_word}
-
-apart : (bs cs ks : List ℕ) → bytes_eq bs cs ≡ false → bytes_eq bs ks ≡ true → bytes_eq cs ks ≡ false
-apart bs cs ks n y = nat_list_eq_equiv.symm cs ks ∙ sym (nat_list_eq_equiv.congr bs ks cs y) ∙ n
-
-others : {K X : Type 0} (eq : K → K → Bool) (test : K → Bool) (old new : List (K × X)) → KeepsOthers eq test old new → (other : K → Bool) → IsKeyTest eq other → AreApart test other → lookup other new ≡ lookup other old
-unfolding KeepsOthers
-others eq test old new h = h
-
--- the test by which bytes are looked up
-abbrev is_key : List ℕ → Vec ℕ → Bool
-is_key bs k = bytes_eq bs k.items
 
 -- a table with another word at a text
 pub word_put : {S : Type 0} (text : List ℕ) (w : CWordToken) (m n : HashMap (Vec ℕ) CWordToken S) → hash.UpdatesBy (λ x y. bytes_eq x.items y.items) (λ k. bytes_eq text k.items) m n (Some w)

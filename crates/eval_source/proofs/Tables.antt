@@ -8,7 +8,8 @@ use Rattle.std.specs.HashMap.{HashMap}
 use Rattle.fi_meaning.specs.Environment.{assigned, forgotten}
 use Rattle.eval_value.specs.View.{value_view}
 use Rattle.eval_value.specs.declared.value.Value.{Value}
-use Rattle.walk_scope.proofs.Tables.{is_key, updated}
+use Rattle.fic_base.proofs.Tables.{is_key}
+use Rattle.walk_scope.proofs.Tables.{updated}
 
 -- a table of values with another one at a name
 pub value_put : {S : Type 0} (name : List ℕ) (v : Value) (m n : HashMap (Vec ℕ) Value S) → hash.UpdatesBy (λ x y. bytes_eq x.items y.items) (λ k. bytes_eq name k.items) m n (Some v)

@@ -1,1 +1,2 @@
 pub mod NameTests
+pub mod Tables

@@ -8,7 +8,8 @@ use Rattle.std.specs.HashMap.{HashMap}
 use Rattle.scalar_program.specs.NameMaps.{with_type}
 use Rattle.scalar_walk.specs.declared.operand.Held.{Held}
 use Rattle.scalar_walk.specs.View.{held_view}
-use Rattle.walk_scope.proofs.Tables.{is_key, updated}
+use Rattle.fic_base.proofs.Tables.{is_key}
+use Rattle.walk_scope.proofs.Tables.{updated}
 
 -- a table of values with another one at a name
 pub held_put : {S : Type 0} (name : List ℕ) (o : Held) (m n : HashMap (Vec ℕ) Held S) → hash.UpdatesBy (λ x y. bytes_eq x.items y.items) (λ k. bytes_eq name k.items) m n (Some o)
