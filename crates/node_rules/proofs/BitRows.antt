@@ -16,7 +16,7 @@ use Rattle.node_rules.specs.Types.{FiNode, LogicalNode, IndexNode, known}
 use Rattle.node_rules.proofs.RangeRows.{number}
 use Rattle.node_rules.proofs.Rows.{u8, row_of_two, row_of_three, a2, a3}
 
-abbrev s8 : NumericType
+abbrev pub s8 : NumericType
 s8 = record { signed = true; word = 8; fraction = pos 0 }
 
 -- unequal types before shapes that don't fit

@@ -12,6 +12,7 @@ use Rattle.node_rules.specs.Sums.{sum_ruled, sum_value}
 use Rattle.node_rules.specs.Types.{ty_of}
 use Rattle.node_rules.proofs.Binds.{fine_needed, then_then}
 use Rattle.node_rules.proofs.Bits.{fine_natural, paired_law, complemented_law, shifted_law, sliced_law}
+use Rattle.node_rules.proofs.Concatenated.{concatenated_law}
 use Rattle.node_rules.proofs.Goes.{Goes, goes, stops, by, goes_then}
 use Rattle.node_rules.proofs.Parted.{real_law, imaginary_law, conjugate_law, complex_law}
 use Rattle.node_rules.proofs.Queries.{numel_law, length_law, size_law}
@@ -42,7 +43,6 @@ sum_along_law v d =
 pub function_law : (f : Function) (vs : List Val) → has_rule f ≡ true → Goes (λ t. function_value f t vs) (functions.given f vs) (function_ruled f (map ty_of vs))
 unfolding has_rule function_ruled function_value functions.given ty_of
 function_law (Filled c) vs h = absurd (cc)
-function_law BitConcat vs h = absurd (cc)
 function_law Numel [] h = stops _ _
 function_law Numel (v ∷ []) h = numel_law v
 function_law Numel (v ∷ w ∷ more) h = stops _ _
@@ -99,6 +99,9 @@ function_law BitShiftSign [] h = stops _ _
 function_law BitShiftSign (v ∷ []) h = stops _ _
 function_law BitShiftSign (v ∷ k ∷ []) h = shifted_law sign_shifted v k
 function_law BitShiftSign (v ∷ k ∷ x ∷ more) h = stops _ _
+function_law BitConcat [] h = stops _ _
+function_law BitConcat (v ∷ []) h = stops _ _
+function_law BitConcat (v ∷ w ∷ ws) h = concatenated_law v w ws
 function_law BitSlice [] h = stops _ _
 function_law BitSlice (v ∷ []) h = stops _ _
 function_law BitSlice (v ∷ l ∷ []) h = stops _ _

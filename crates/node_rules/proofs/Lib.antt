@@ -17,8 +17,13 @@ pub mod Spans
 pub mod Rows
 pub mod Ranges
 pub mod RangeRows
+pub mod BracketConditions
+pub mod Joined
+pub mod BracketRows
 pub mod Bits
 pub mod BitRows
+pub mod Concatenated
+pub mod ConcatRows
 pub mod Parted
 pub mod Queries
 pub mod PartedRows

@@ -1,5 +1,5 @@
 -- Calls of built-in functions: how many arguments each takes, its rule on their types, and its value at the type of the node. So far all but
--- `bitconcat` and those that make arrays of one number.
+-- those that make arrays of one number.
 use Rattle.std.specs.Prelude.{ℕ, Bool, true, false, List, [], ◌∷◌, length, Option, Some, None}
 use Rattle.fic_base.specs.declared.code.Code.TheVariants as code
 use Rattle.fi_ops.specs.Bits.{left_shifted, right_shifted, sign_shifted, anded, ored, xored}
@@ -10,6 +10,7 @@ use Rattle.fi_values.specs.Sums.{Along, Columns, first_along}
 use Rattle.fi_meaning.specs.Functions.{Function, Filled, Numel, Length, Size, Truth, Real, Imag, Conj, Complex, Sum, BitAnd, BitOr, BitXor, BitCmp, BitShiftLeft, BitShiftRight, BitShiftSign, BitConcat, BitSlice, along, shape_of_fi, natural}
 use Rattle.fi_rules.specs.Options.{◌|>◌}
 use Rattle.node_rules.specs.Bits.{natural_ruled, bits_paired, paired_value, complemented_ruled, complemented_value, shifted_ruled, shifted_value, sliced_ruled, sliced_value}
+use Rattle.node_rules.specs.Concatenated.{concatenated_ruled, concatenated_value}
 use Rattle.node_rules.specs.Parted.{part_ruled, real_value, imaginary_value, conjugate_ruled, conjugate_value, complex_ruled, complex_value}
 use Rattle.node_rules.specs.Queries.{numel_ruled, length_ruled, size_ruled}
 use Rattle.node_rules.specs.Ruled.{Ruled, Fine, Missing, Shows, ◌>>=◌, needed}
@@ -19,7 +20,6 @@ use Rattle.node_rules.specs.Types.{NodeTy, FiNode, LogicalNode, known}
 -- the functions that have their rule here
 unfoldable pub has_rule : Function → Bool
 has_rule (Filled c) = false
-has_rule BitConcat = false
 has_rule f = true
 
 -- so many arguments, and so many that are wanted
@@ -90,6 +90,8 @@ function_ruled BitShiftRight (t ∷ k ∷ []) = shifted_ruled t k
 function_ruled BitShiftRight ts = miscounted ts 2
 function_ruled BitShiftSign (t ∷ k ∷ []) = shifted_ruled t k
 function_ruled BitShiftSign ts = miscounted ts 2
+function_ruled BitConcat (t ∷ u ∷ us) = concatenated_ruled t (u ∷ us)
+function_ruled BitConcat ts = miscounted ts 2
 function_ruled BitSlice (t ∷ l ∷ r ∷ []) = sliced_ruled t l r
 function_ruled BitSlice ts = miscounted ts 3
 function_ruled f ts = Missing code.Unsupported (Shows Itself)
@@ -109,5 +111,6 @@ function_value BitCmp t (v ∷ []) = complemented_value t v
 function_value BitShiftLeft t (v ∷ k ∷ []) = shifted_value left_shifted t v k
 function_value BitShiftRight t (v ∷ k ∷ []) = shifted_value right_shifted t v k
 function_value BitShiftSign t (v ∷ k ∷ []) = shifted_value sign_shifted t v k
+function_value BitConcat t (v ∷ ws) = concatenated_value t v ws
 function_value BitSlice t (v ∷ l ∷ r ∷ []) = sliced_value t v l r
 function_value f t vs = known t

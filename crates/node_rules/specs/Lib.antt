@@ -16,7 +16,9 @@ pub mod Subscripts
 pub mod Stores
 pub mod Sums
 pub mod Ranges
+pub mod Brackets
 pub mod Bits
+pub mod Concatenated
 pub mod Parted
 pub mod Queries
 pub mod Texts

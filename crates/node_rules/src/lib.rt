@@ -1,9 +1,9 @@
-//! The rules of nodes: for an operator, a sign, a transpose, a sum, a range, functions on bits, on parts of complex values and on shapes, a
+//! The rules of nodes: for an operator, a sign, a transpose, a sum, a range, a bracket, functions on bits, on parts of complex values and on shapes, a
 //! subscripted read and a subscripted assignment, on operands of which types it is defined, with the conditions in the order of their codes, the
 //! type of its result, and the value of its node at that type. Laws: evaluation goes by these rules.
 #![tactic(auto)]
 
-ghost use Rattle.std.specs.Prelude.{◌≡◌, ◌<◌, ◌^◌, ℕ, ℤ, List, map, Option, Some, true, nat_abs};
+ghost use Rattle.std.specs.Prelude.{◌≡◌, ◌<◌, ◌^◌, ℕ, ℤ, List, ◌∷◌, map, Option, Some, true, nat_abs};
 ghost use Rattle.fic_base.specs.declared.place.Place.{Place};
 ghost use Rattle.mat_ast.specs.declared.tree.BinOp.{BinOp};
 ghost use Rattle.mat_ast.specs.declared.tree.PostOp.{PostOp};
@@ -13,7 +13,8 @@ ghost use Rattle.fi_rules.specs.declared.work.Work.{Work};
 ghost use Rattle.fi_values.specs.Arithmetic.{is_arithmetic, arithmetic};
 ghost use Rattle.fi_ops.specs.Elements.{Element};
 ghost use Rattle.fi_rules.specs.Options.{◌|>◌};
-ghost use Rattle.fi_values.specs.Bits.{two_typed, turned_bits, shifted, bits_between};
+ghost use Rattle.fi_values.specs.Bits.{two_typed, turned_bits, shifted, concatenated_all, bits_between};
+ghost use Rattle.fi_values.specs.Brackets.{bracket};
 ghost use Rattle.fi_values.specs.Numbers.{is_bound};
 ghost use Rattle.fi_values.specs.Queries.{real_part, imaginary_part, complex_of, element_count, greater_extent, extent_of};
 ghost use Rattle.fi_values.specs.Ranges.{ranged};
@@ -24,6 +25,8 @@ ghost use Rattle.fi_meaning.specs.Functions.{Function, natural, conjugate_of};
 ghost use Rattle.fi_meaning.specs.Operators.{by_operator, by_sign};
 ghost use Rattle.node_rules.specs.Agrees.{Tells, evaluated_read, evaluated_store};
 ghost use Rattle.node_rules.specs.Bits.{bits_paired, paired_value, complemented_ruled, complemented_value, shifted_ruled, shifted_value, sliced_ruled, sliced_value};
+ghost use Rattle.node_rules.specs.Brackets.{bracket_ruled, bracket_value};
+ghost use Rattle.node_rules.specs.Concatenated.{concatenated_ruled, concatenated_value};
 ghost use Rattle.node_rules.specs.Operators.{pair_ruled, pair_value};
 ghost use Rattle.fi_meaning.specs.Statements.{item_value};
 ghost use Rattle.node_rules.specs.Pairs.{Span, IsIn, span_worked, items_worked, arithmetic_value};
@@ -89,10 +92,22 @@ pub fn ranges_go_by_their_rule()
     ensures { (first step last : Val) → ranged first step last ≡ given (range_ruled (ty_of first) (ty_of step) (ty_of last)) range_value }
 {}
 
+/// A bracket gives what its rule says, whatever its rows are: a value exactly where the conditions hold on the types of its elements, and then the
+/// one at the type of the node, which has this type.
+pub fn brackets_go_by_their_rule()
+    ensures values { (rows : List (List Val)) → bracket rows ≡ given (bracket_ruled (map (map ty_of) rows)) (λ t. bracket_value t rows) }
+    ensures types { (rows : List (List Val)) (t : NodeTy) → bracket_ruled (map (map ty_of) rows) ≡ Fine t → ty_of (bracket_value t rows) ≡ t }
+{}
+
 /// A function on the bits of two operands gives what its rule says, whichever it is: a value exactly where the conditions of the rule hold, and
 /// then the value of the node at the type that the rule gives.
 pub fn bit_pairs_go_by_their_rule()
     ensures { (f : Element → Element → ℤ) (v w : Val) → two_typed f v w ≡ given (bits_paired (ty_of v) (ty_of w)) (λ t. paired_value f t v w) }
+{}
+
+/// `bitconcat` of two operands or more gives what its rule says, likewise.
+pub fn concatenations_go_by_their_rule()
+    ensures { (v w : Val) (ws : List Val) → concatenated_all v (w ∷ ws) ≡ given (concatenated_ruled (ty_of v) (map ty_of (w ∷ ws))) (λ t. concatenated_value t v (w ∷ ws)) }
 {}
 
 /// `bitcmp` gives what its rule says, likewise.
