@@ -12,6 +12,7 @@ use Rattle.fi_meaning.specs.Functions.{natural}
 use Rattle.fi_values.specs.Shapes.{common}
 use Rattle.node_rules.specs.Bits.{bits_paired, complemented_ruled, shifted_ruled, sliced_ruled}
 use Rattle.node_rules.specs.Ruled.{Missing, Shows, Misfit, bind, needed, tested}
+use Rattle.node_rules.specs.TypedPairs.{typed_pair_met}
 use Rattle.node_rules.specs.Types.{FiNode, LogicalNode, IndexNode, known}
 use Rattle.node_rules.proofs.RangeRows.{number}
 use Rattle.node_rules.proofs.Rows.{u8, row_of_two, row_of_three, a2, a3}
@@ -21,17 +22,17 @@ s8 = record { signed = true; word = 8; fraction = pos 0 }
 
 -- unequal types before shapes that don't fit
 types : bits_paired a2 (FiNode s8 None false row_of_three) ≡ Missing code.BadArgument (Shows Itself)
-unfolding bits_paired bind tested
+unfolding typed_pair_met bind tested
 types = refl
 
 -- a complex operand before the same
 complex_pairs : bits_paired a2 (FiNode u8 None true row_of_three) ≡ Missing code.BadArgument (Shows Itself)
-unfolding bits_paired
+unfolding typed_pair_met bind
 complex_pairs = refl
 
 -- shapes that don't fit
 shapes : bits_paired a2 a3 ≡ Missing code.SizeMismatch (Misfit row_of_two row_of_three)
-unfolding bits_paired common bind tested needed
+unfolding typed_pair_met common bind tested needed
 shapes = refl
 
 -- a logical and an index have no bits

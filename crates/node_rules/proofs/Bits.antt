@@ -1,8 +1,10 @@
 -- Functions on bits go by their rules.
 use Rattle.std.proofs.Common.{◌≡◌, refl, sym, ◌∙◌, ℕ, true, false}
 use Rattle.std.specs.Prelude.{ℤ, ◌&&◌, nat_le, nat_lt, Some, None}
+use Rattle.fic_base.specs.declared.code.Code.TheVariants as code
 use Rattle.fi_ops.specs.Elements.{Element}
-use Rattle.fi_rules.specs.Options.{and_then, ◌|>◌}
+use Rattle.fi_rules.specs.Checked.{Itself}
+use Rattle.fi_rules.specs.Options.{and_then, ◌|>◌, where_so}
 use Rattle.fi_rules.specs.Types.{same_type}
 use Rattle.fi_rules.specs.Value.{Val, Fi, ComplexFi, Number}
 use Rattle.fi_values.specs.Arithmetic.{governing, fi_value}
@@ -12,11 +14,12 @@ use Rattle.fi_meaning.specs.Functions.{natural}
 use Rattle.node_rules.specs.Bits.{natural_ruled, number_or_nought, natural_in, bits_paired, paired_value, complemented_ruled, each_value, complemented_value, shifted_ruled, shifted_value, sliced_ruled, sliced_parts, sliced_value}
 use Rattle.node_rules.specs.Pairs.{fits}
 use Rattle.node_rules.specs.Parts.{parts_in}
-use Rattle.node_rules.specs.Ruled.{fine}
+use Rattle.node_rules.specs.Ruled.{Shows, bind, tested, fine}
+use Rattle.node_rules.specs.TypedPairs.{typed_pair_met}
 use Rattle.node_rules.specs.Types.{FiNode, ty_of, known}
-use Rattle.node_rules.proofs.Binds.{then_none, fine_needed}
+use Rattle.node_rules.proofs.Binds.{then_none, fine_needed, fine_tested}
 use Rattle.node_rules.proofs.Conditions.{fine_governed}
-use Rattle.node_rules.proofs.Goes.{Goes, goes, stops, by, goes_then, goes_test}
+use Rattle.node_rules.proofs.Goes.{Goes, goes, stops, by, goes_then, goes_on, goes_test}
 
 -- what is known of a value without a run has its number
 pub natural_known : (k : Val) → natural (known (ty_of k)) ≡ natural k
@@ -32,10 +35,10 @@ unfolding number_or_nought
 number_is k n e = rw e refl
 
 pub paired_law : (f : Element → Element → ℤ) (v w : Val) → Goes (λ t. paired_value f t v w) (two_typed f v w) (bits_paired (ty_of v) (ty_of w))
-unfolding two_typed bits_paired paired_value parts_in ty_of
+unfolding two_typed typed_pair_met paired_value parts_in ty_of bind
 paired_law f (Fi t m s xs) (Fi u n r ys) =
-    goes_test _ _ _ _ _ (same_type t u) t t (λ h.
-    goes_then _ _ (fits s r) (common s r) (fine_needed _ _ _) (λ q i.
+    goes_on _ _ _ (tested code.BadArgument (Shows Itself) (same_type t u) t) (where_so (same_type t u) t) (fine_tested _ _ _ _) (λ t h.
+    goes_on _ _ _ (fits s r) (common s r) (fine_needed _ _ _) (λ q i.
     goes_then _ _ _ (governing m n) (fine_governed m n) (λ g j. goes _ refl)))
 paired_law f v w = stops _ _
 

@@ -1,44 +1,47 @@
 -- Calls of built-in functions go by their rules.
 use Rattle.std.proofs.Common.{◌≡◌, ℕ, refl, sym, ap, subst, ◌∙◌, true, List, [], ◌∷◌, map}
-use Rattle.std.specs.Prelude.{Some}
+use Rattle.std.specs.Prelude.{Option, Some}
 use Rattle.fi_ops.specs.Bits.{left_shifted, right_shifted, sign_shifted, anded, ored, xored}
 use Rattle.fi_rules.specs.Options.{◌|>◌, and_then}
 use Rattle.fi_rules.specs.Value.{Val, Fi, ComplexFi}
 use Rattle.fi_values.specs.Sums.{Along, first_along, summed_value}
 use Rattle.fi_meaning.specs.Functions as functions
 use Rattle.fi_meaning.specs.Functions.{Function, Filled, Numel, Length, Size, Truth, Real, Imag, Conj, Complex, Sum, BitAnd, BitOr, BitXor, BitCmp, BitShiftLeft, BitShiftRight, BitShiftSign, BitConcat, BitSlice, along, shape_of_fi, natural}
-use Rattle.node_rules.specs.Built.{has_rule, fi_shape, first_sum_ruled, sum_along_ruled, shape_or, along_or, first_of, along_in, function_ruled, function_value}
-use Rattle.node_rules.specs.Sums.{sum_ruled, sum_value}
-use Rattle.node_rules.specs.Types.{ty_of}
+use Rattle.node_rules.specs.Built.{has_rule, first_sum_ruled, either_sum_worked, sum_along_ruled, shape_or, along_or, first_of, along_in, function_ruled, function_value}
+use Rattle.node_rules.specs.Bits.{natural_ruled}
+use Rattle.node_rules.specs.Ruled.{Ruled, Fine, Missing, bind, ◌>>=◌, needed}
+use Rattle.node_rules.specs.Sides.{Side}
+use Rattle.node_rules.specs.Sums.{sum_met, sum_worked, sum_ruled, sum_value}
+use Rattle.node_rules.specs.Types.{NodeTy, ty_of}
 use Rattle.node_rules.proofs.Binds.{fine_needed, then_then}
 use Rattle.node_rules.proofs.Bits.{fine_natural, paired_law, complemented_law, shifted_law, sliced_law}
 use Rattle.node_rules.proofs.Concatenated.{concatenated_law}
-use Rattle.node_rules.proofs.Goes.{Goes, goes, stops, by, goes_then}
+use Rattle.node_rules.proofs.Goes.{Goes, goes, stops, by, goes_on}
 use Rattle.node_rules.proofs.Parted.{real_law, imaginary_law, conjugate_law, complex_law}
 use Rattle.node_rules.proofs.Queries.{numel_law, length_law, size_law}
 use Rattle.node_rules.proofs.Signs.{sum_law}
 
-shape_is : (v : Val) → fi_shape (ty_of v) ≡ shape_of_fi v
-unfolding fi_shape ty_of
-shape_is (Fi t m s xs) = refl
-shape_is (ComplexFi t m s xs ys) = refl
-shape_is v = refl
-
 first_sum_law : (v : Val) → Goes (λ t. sum_value (first_of v) t v) (shape_of_fi v |> (λ s. summed_value (first_along s) v)) (first_sum_ruled (ty_of v))
-unfolding shape_or
-first_sum_law v =
-    goes_then _ _ _ (shape_of_fi v) (fine_needed _ _ _ ∙ shape_is v) (λ s h.
-    rw h (sum_law (first_along s) v))
+unfolding shape_or sum_met bind and_then ty_of
+first_sum_law (Fi t m s xs) = sum_law (first_along s) (Fi t m s xs)
+first_sum_law (ComplexFi t m s xs ys) = sum_law (first_along s) (ComplexFi t m s xs ys)
+first_sum_law v = stops _ _
 
 along_is : (d : Val) (n : ℕ) (a : Along) → natural d ≡ Some n → along n ≡ Some a → along_in d ≡ a
 unfolding along_or and_then
 along_is d n a g h = ap (λ o. along_or (o |> along)) g ∙ ap along_or h
 
+-- the dimension is kept beside the operand
+sum_beside : {o : Option Val} (val : NodeTy → Val) (a : Along) (c : Ruled Side) → Goes val o (c >>= sum_worked a) → Goes val o ((c >>= (λ s. Fine (a, s))) >>= either_sum_worked)
+unfolding bind
+sum_beside val a (Fine s) h = h
+sum_beside val a (Missing code why) h = h
+
 sum_along_law : (v d : Val) → Goes (λ t. sum_value (along_in d) t v) (natural d |> along |> (λ a. summed_value a v)) (sum_along_ruled (ty_of v) (ty_of d))
 sum_along_law v d =
     by _ (then_then (natural d) along (λ a. summed_value a v))
-    (goes_then _ _ _ (natural d) (fine_natural d) (λ n g. goes_then _ _ _ (along n) (fine_needed _ _ _) (λ a h.
-    subst (λ x. Goes (λ t. sum_value x t v) (summed_value a v) (sum_ruled a (ty_of v))) (sym (along_is d n a g h)) (sum_law a v))))
+    (goes_on _ _ _ (natural_ruled (ty_of d)) (natural d) (fine_natural d) (λ n g. goes_on _ _ _ (needed _ _ (along n)) (along n) (fine_needed _ _ _) (λ a h.
+    sum_beside _ a (sum_met (ty_of v)) (subst (λ x. Goes (λ t. sum_value x t v) (summed_value a v) (sum_ruled a (ty_of v))) (sym (along_is d n a g h)) (sum_law a v)))))
 
 pub function_law : (f : Function) (vs : List Val) → has_rule f ≡ true → Goes (λ t. function_value f t vs) (functions.given f vs) (function_ruled f (map ty_of vs))
 unfolding has_rule function_ruled function_value functions.given ty_of

@@ -4,10 +4,11 @@ use Rattle.std.specs.Prelude.{pos}
 use Rattle.fic_base.specs.declared.code.Code.TheVariants as code
 use Rattle.fi_rules.specs.Checked.{Itself, Counts}
 use Rattle.fi_meaning.specs.Functions.{Numel, Sum, Real, BitSlice, Truth, natural}
-use Rattle.node_rules.specs.Built.{function_ruled, fi_shape}
+use Rattle.node_rules.specs.Built.{function_ruled}
 use Rattle.node_rules.specs.Parted.{part_ruled}
 use Rattle.node_rules.specs.Queries.{asked_shape}
 use Rattle.node_rules.specs.Ruled.{Missing, Shows, bind, needed}
+use Rattle.node_rules.specs.Sums.{sum_met}
 use Rattle.node_rules.specs.Types.{IndexNode, TextNode, known}
 use Rattle.node_rules.proofs.Rows.{a2}
 
@@ -42,7 +43,7 @@ computed_dimension = refl
 
 -- sum('x') and real('x')
 text_summed : function_ruled Sum (TextNode [] ∷ []) ≡ Missing code.BadArgument (Shows Itself)
-unfolding function_ruled fi_shape bind needed
+unfolding function_ruled sum_met bind
 text_summed = refl
 
 text_parted : function_ruled Real (TextNode [] ∷ []) ≡ Missing code.BadArgument (Shows Itself)

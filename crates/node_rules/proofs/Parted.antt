@@ -1,6 +1,8 @@
 -- Parts, conjugates and complex values of two real ones go by their rules.
 use Rattle.std.proofs.Common.{refl}
-use Rattle.fi_rules.specs.Options.{and_then}
+use Rattle.fic_base.specs.declared.code.Code.TheVariants as code
+use Rattle.fi_rules.specs.Checked.{Itself}
+use Rattle.fi_rules.specs.Options.{and_then, where_so}
 use Rattle.fi_rules.specs.Types.{same_type}
 use Rattle.fi_rules.specs.Value.{Val, Fi, ComplexFi}
 use Rattle.fi_values.specs.Arithmetic.{governing}
@@ -11,10 +13,12 @@ use Rattle.fi_meaning.specs.Functions.{conjugate_of}
 use Rattle.node_rules.specs.Pairs.{fits}
 use Rattle.node_rules.specs.Parted.{part_ruled, real_value, imaginary_value, conjugate_ruled, conjugate_value, complex_ruled, complex_value}
 use Rattle.node_rules.specs.Parts.{parts_in}
+use Rattle.node_rules.specs.Ruled.{Shows, bind, tested}
+use Rattle.node_rules.specs.TypedPairs.{typed_pair_met}
 use Rattle.node_rules.specs.Types.{FiNode, ty_of}
-use Rattle.node_rules.proofs.Binds.{fine_needed}
+use Rattle.node_rules.proofs.Binds.{fine_needed, fine_tested}
 use Rattle.node_rules.proofs.Conditions.{fine_governed}
-use Rattle.node_rules.proofs.Goes.{Goes, goes, stops, goes_then, goes_test}
+use Rattle.node_rules.proofs.Goes.{Goes, goes, stops, goes_then, goes_on}
 
 pub real_law : (v : Val) → Goes (λ t. real_value t v) (real_part v) (part_ruled (ty_of v))
 unfolding real_part part_ruled real_value parts_in ty_of
@@ -35,9 +39,9 @@ conjugate_law (ComplexFi t m s xs ys) = goes (FiNode t m _ s) refl
 conjugate_law v = stops _ _
 
 pub complex_law : (v w : Val) → Goes (λ t. complex_value t v w) (complex_of v w) (complex_ruled (ty_of v) (ty_of w))
-unfolding complex_of complex_ruled complex_value parts_in ty_of
+unfolding complex_of typed_pair_met complex_value parts_in ty_of bind
 complex_law (Fi t m s xs) (Fi u n r ys) =
-    goes_test _ _ _ _ _ (same_type t u) t t (λ h.
-    goes_then _ _ (fits s r) (common s r) (fine_needed _ _ _) (λ q i.
+    goes_on _ _ _ (tested code.BadArgument (Shows Itself) (same_type t u) t) (where_so (same_type t u) t) (fine_tested _ _ _ _) (λ t h.
+    goes_on _ _ _ (fits s r) (common s r) (fine_needed _ _ _) (λ q i.
     goes_then _ _ _ (governing m n) (fine_governed m n) (λ g j. goes _ refl)))
 complex_law v w = stops _ _

@@ -13,6 +13,7 @@ use Rattle.fi_values.specs.Shapes.{common}
 use Rattle.node_rules.specs.Parted.{part_ruled, conjugate_ruled, complex_ruled}
 use Rattle.node_rules.specs.Queries.{asked_shape, numel_ruled, length_ruled, size_ruled}
 use Rattle.node_rules.specs.Ruled.{Missing, Shows, Misfit, bind, needed, tested}
+use Rattle.node_rules.specs.TypedPairs.{typed_pair_met}
 use Rattle.node_rules.specs.Types.{FiNode, LogicalNode, NumberNode, IndexNode, TextNode, known}
 use Rattle.node_rules.proofs.RangeRows.{number}
 use Rattle.node_rules.proofs.Rows.{u8, row_of_two, row_of_three, a2, a3}
@@ -28,11 +29,11 @@ logicals = refl
 
 -- a complex operand before shapes that don't fit
 operands : complex_ruled a2 (FiNode u8 None true row_of_three) ≡ Missing code.BadArgument (Shows Itself)
-unfolding complex_ruled
+unfolding typed_pair_met bind
 operands = refl
 
 shapes : complex_ruled a2 a3 ≡ Missing code.SizeMismatch (Misfit row_of_two row_of_three)
-unfolding complex_ruled common bind tested needed
+unfolding typed_pair_met common bind tested needed
 shapes = refl
 
 -- neither a text nor an index has a shape that is asked for

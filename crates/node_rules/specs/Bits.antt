@@ -1,19 +1,17 @@
 -- Functions on bits: their conditions in the order of the codes, the types of their results, and their values.
 use Rattle.std.specs.Prelude.{ℕ, ◌+◌, ◌-◌, ◌&&◌, ℤ, false, nat_le, nat_lt, Option, Some, None}
 use Rattle.fic_base.specs.declared.code.Code.TheVariants as code
-use Rattle.fi_math.specs.Govern.{governed}
 use Rattle.fi_ops.specs.Elements.{Element}
 use Rattle.fi_ops.specs.Bits.{complemented, sliced, word_type}
 use Rattle.fi_rules.specs.Checked.{Itself}
-use Rattle.fi_rules.specs.Types.{same_type}
 use Rattle.fi_rules.specs.Value.{Val, Fi, ComplexFi}
 use Rattle.fi_eval.specs.Operators.{pairwise}
 use Rattle.fi_meaning.specs.Functions.{natural}
 use Rattle.fi_values.specs.Arithmetic.{Parts, fi_value}
 use Rattle.fi_values.specs.Bits.{each}
-use Rattle.node_rules.specs.Pairs.{fits}
 use Rattle.node_rules.specs.Parts.{no_parts, parts_in, both_lists}
-use Rattle.node_rules.specs.Ruled.{Ruled, Fine, Missing, Shows, ◌>>=◌, needed, tested, governed_ruled}
+use Rattle.node_rules.specs.Ruled.{Ruled, Fine, Missing, Shows, ◌>>=◌, needed, tested}
+use Rattle.node_rules.specs.TypedPairs.{typed_pair_met, typed_pair_worked}
 use Rattle.node_rules.specs.Types.{NodeTy, FiNode, known}
 
 -- a real constant of one element, whole and not below 0
@@ -30,11 +28,8 @@ natural_in k = number_or_nought (natural k)
 -- ---- bitand, bitor, bitxor
 
 -- two real fis of one type
-unfoldable pub bits_paired : NodeTy → NodeTy → Ruled NodeTy
-bits_paired (FiNode t m false s) (FiNode u n false r) =
-    tested code.BadArgument (Shows Itself) (same_type t u) t
-    >>= (λ t. fits s r >>= (λ q. governed_ruled (governed m n) >>= (λ g. Fine (FiNode t g.attached false q))))
-bits_paired x y = Missing code.BadArgument (Shows Itself)
+abbrev pub bits_paired : NodeTy → NodeTy → Ruled NodeTy
+bits_paired x y = typed_pair_met x y >>= typed_pair_worked false
 
 unfoldable pub paired_value : (Element → Element → ℤ) → NodeTy → Val → Val → Val
 paired_value f (FiNode t m c s) v w =

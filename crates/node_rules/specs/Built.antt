@@ -14,8 +14,9 @@ use Rattle.node_rules.specs.Concatenated.{concatenated_ruled, concatenated_value
 use Rattle.node_rules.specs.Parted.{part_ruled, real_value, imaginary_value, conjugate_ruled, conjugate_value, complex_ruled, complex_value}
 use Rattle.node_rules.specs.Queries.{numel_ruled, length_ruled, size_ruled}
 use Rattle.node_rules.specs.Ruled.{Ruled, Fine, Missing, Shows, ◌>>=◌, needed}
-use Rattle.node_rules.specs.Sums.{sum_ruled, sum_value}
-use Rattle.node_rules.specs.Types.{NodeTy, FiNode, LogicalNode, known}
+use Rattle.node_rules.specs.Sides.{Side}
+use Rattle.node_rules.specs.Sums.{sum_met, sum_worked, sum_value}
+use Rattle.node_rules.specs.Types.{NodeTy, LogicalNode, known}
 
 -- the functions that have their rule here
 unfoldable pub has_rule : Function → Bool
@@ -28,16 +29,22 @@ miscounted ts want = Missing code.ArgCount (Shows (Counts (length ts) want))
 
 -- ---- sums, along the first dimension that isn't of one element where none is given
 
-unfoldable pub fi_shape : NodeTy → Option Shape
-fi_shape (FiNode t m c s) = Some s
-fi_shape t = None
-
-abbrev pub first_sum_ruled : NodeTy → Ruled NodeTy
-first_sum_ruled t = needed code.BadArgument (Shows Itself) (fi_shape t) >>= (λ s. sum_ruled (first_along s) t)
+abbrev pub first_sum_met : NodeTy → Ruled (Along × Side)
+first_sum_met t = sum_met t >>= (λ a. Fine (first_along a.shape, a))
 
 -- the dimension is the constant 1 or 2
+abbrev pub sum_along_met : NodeTy → NodeTy → Ruled (Along × Side)
+sum_along_met t d =
+    natural_ruled d >>= (λ n. needed code.BadArgument (Shows Itself) (along n) >>= (λ l. sum_met t >>= (λ a. Fine (l, a))))
+
+abbrev pub either_sum_worked : Along × Side → Ruled NodeTy
+either_sum_worked p = sum_worked p.0 p.1
+
+abbrev pub first_sum_ruled : NodeTy → Ruled NodeTy
+first_sum_ruled t = first_sum_met t >>= either_sum_worked
+
 abbrev pub sum_along_ruled : NodeTy → NodeTy → Ruled NodeTy
-sum_along_ruled t d = natural_ruled d >>= (λ n. needed code.BadArgument (Shows Itself) (along n) >>= (λ a. sum_ruled a t))
+sum_along_ruled t d = sum_along_met t d >>= either_sum_worked
 
 unfoldable pub shape_or : Option Shape → Shape
 shape_or None = scalar

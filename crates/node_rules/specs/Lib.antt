@@ -5,6 +5,7 @@ pub mod Parts
 pub mod Sides
 pub mod Pairs
 pub mod Worked
+pub mod TypedPairs
 pub mod Products
 pub mod Powers
 pub mod Comparisons

@@ -2,15 +2,13 @@
 -- results, and their values.
 use Rattle.std.specs.Prelude.{pos, false, true, map}
 use Rattle.fic_base.specs.declared.code.Code.TheVariants as code
-use Rattle.fi_math.specs.Govern.{governed}
 use Rattle.fi_rules.specs.Checked.{Itself}
-use Rattle.fi_rules.specs.Types.{same_type}
 use Rattle.fi_rules.specs.Value.{Val, Fi, ComplexFi}
 use Rattle.fi_eval.specs.Operators.{pairwise}
 use Rattle.fi_values.specs.Transposes.{conjugate}
-use Rattle.node_rules.specs.Pairs.{fits}
 use Rattle.node_rules.specs.Parts.{parts_in}
-use Rattle.node_rules.specs.Ruled.{Ruled, Fine, Missing, Shows, ◌>>=◌, tested, governed_ruled}
+use Rattle.node_rules.specs.Ruled.{Ruled, Fine, Missing, Shows, ◌>>=◌}
+use Rattle.node_rules.specs.TypedPairs.{typed_pair_met, typed_pair_worked}
 use Rattle.node_rules.specs.Types.{NodeTy, FiNode, known}
 
 -- a part of a fi is real
@@ -36,11 +34,8 @@ abbrev pub conjugate_value : Val → Val
 conjugate_value v = conjugate v
 
 -- two real fis of one type
-unfoldable pub complex_ruled : NodeTy → NodeTy → Ruled NodeTy
-complex_ruled (FiNode t m false s) (FiNode u n false r) =
-    tested code.BadArgument (Shows Itself) (same_type t u) t
-    >>= (λ t. fits s r >>= (λ q. governed_ruled (governed m n) >>= (λ g. Fine (FiNode t g.attached true q))))
-complex_ruled x y = Missing code.BadArgument (Shows Itself)
+abbrev pub complex_ruled : NodeTy → NodeTy → Ruled NodeTy
+complex_ruled x y = typed_pair_met x y >>= typed_pair_worked true
 
 unfoldable pub complex_value : NodeTy → Val → Val → Val
 complex_value (FiNode t m c s) v w =
