@@ -3,11 +3,7 @@ use Rattle.std.proofs.Common.{◌≡◌, refl, true, false, [], ◌∷◌}
 use Rattle.std.specs.Prelude.{ℕ, pos, codes, Some, None}
 use Rattle.std.specs.Fmt.{digits}
 use Rattle.fic_base.specs.declared.code.Code.TheVariants as code
-use Rattle.fi_math.specs.declared.fimath.Fimath.{Fimath}
-use Rattle.fi_math.specs.declared.fimath.Mode.TheVariants.{FullPrecision}
 use Rattle.num_type.specs.Precision.{whole}
-use Rattle.num_type.specs.declared.methods.Rounding.TheVariants.{Floor}
-use Rattle.num_type.specs.declared.methods.Overflow.TheVariants.{Wrap}
 use Rattle.fi_rules.specs.Checked.{Itself}
 use Rattle.fi_rules.specs.Texts.{Around, shown_text}
 use Rattle.fi_rules.specs.Types.{same_attached}
@@ -18,26 +14,13 @@ use Rattle.node_rules.specs.Texts.{why_text}
 use Rattle.node_rules.specs.Types.{NodeTy, FiNode, LogicalNode, NumberNode, IndexNode, TextNode, MathNode}
 use Rattle.node_rules.proofs.BitRows.{s8}
 use Rattle.node_rules.proofs.RangeRows.{number}
-use Rattle.node_rules.proofs.Rows.{u8, row_of_two, a2, a3}
+use Rattle.node_rules.proofs.Rows.{u8, floored, row_of_two, a2, a3}
 
 abbrev shape : ℕ → ℕ → Shape
 shape m n = record { rows = m; columns = n }
 
 abbrev array : ℕ → ℕ → NodeTy
 array m n = FiNode u8 None false (shape m n)
-
-abbrev floored : Fimath
-floored = record {
-  rounding = Floor;
-  overflow = Wrap;
-  product_mode = FullPrecision;
-  product_word = 32;
-  product_fraction = pos 30;
-  sum_mode = FullPrecision;
-  sum_word = 32;
-  sum_fraction = pos 30;
-  cast_before_sum = true;
-}
 
 abbrev here : Around
 here = record { itself = codes "["; left = codes "1"; right = codes "2" }

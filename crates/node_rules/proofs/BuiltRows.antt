@@ -1,16 +1,21 @@
 -- Worked rows of calls of built-in functions, by computing: how many arguments come before what they are.
 use Rattle.std.proofs.Common.{◌≡◌, refl, false, [], ◌∷◌}
-use Rattle.std.specs.Prelude.{pos}
+use Rattle.std.specs.Prelude.{pos, None}
 use Rattle.fic_base.specs.declared.code.Code.TheVariants as code
-use Rattle.fi_rules.specs.Checked.{Itself, Counts}
+use Rattle.fi_math.specs.Logs.{halvings}
+use Rattle.fi_math.specs.Made.{limited, and_then}
+use Rattle.fi_math.specs.Rules.{sum_made}
+use Rattle.fi_ops.specs.Bits.{word_type}
+use Rattle.fi_rules.specs.Pairs.{limits_checked}
+use Rattle.fi_rules.specs.Checked.{Itself, Counts, Whole}
 use Rattle.fi_meaning.specs.Functions.{Numel, Sum, Real, BitSlice, Truth, natural}
 use Rattle.node_rules.specs.Built.{function_met, function_worked, function_ruled}
 use Rattle.node_rules.specs.Parted.{part_ruled}
 use Rattle.node_rules.specs.Queries.{asked_shape}
-use Rattle.node_rules.specs.Ruled.{Missing, Shows, bind, needed}
+use Rattle.node_rules.specs.Ruled.{Missing, Shows, bind, needed, ruled}
 use Rattle.node_rules.specs.Sums.{sum_met}
-use Rattle.node_rules.specs.Types.{IndexNode, TextNode, known}
-use Rattle.node_rules.proofs.Rows.{a2}
+use Rattle.node_rules.specs.Types.{FiNode, IndexNode, TextNode, known}
+use Rattle.node_rules.proofs.Rows.{a2, row_of_two}
 
 -- numel()
 no_argument : function_ruled Numel [] ≡ Missing code.ArgCount (Shows (Counts 0 1))
@@ -59,3 +64,8 @@ index_asked = refl
 two_for_three : function_ruled BitSlice (a2 ∷ a2 ∷ []) ≡ Missing code.ArgCount (Shows (Counts 2 3))
 unfolding function_met function_worked bind
 two_for_three = refl
+
+-- 65 bits of two addends of 64, behind the counts
+wide_sum : function_ruled Sum (FiNode (word_type 64) None false row_of_two ∷ []) ≡ Missing code.TooWide (Shows (Whole (pos 65)))
+unfolding function_met function_worked sum_met sum_made halvings limited and_then limits_checked ruled bind
+wide_sum = refl

@@ -30,3 +30,4 @@ pub mod PartedRows
 pub mod TextRows
 pub mod Built
 pub mod BuiltRows
+pub mod Counted

@@ -1,22 +1,25 @@
 -- Worked rows of the conditions of parts, complex values and queries, by computing.
-use Rattle.std.proofs.Common.{◌≡◌, refl, true, []}
-use Rattle.std.specs.Prelude.{pos, None}
+use Rattle.std.proofs.Common.{◌≡◌, refl, true, false, []}
+use Rattle.std.specs.Prelude.{pos, Some, None}
 use Rattle.fic_base.specs.declared.code.Code.TheVariants as code
 use Rattle.const_rules.specs.Stored.{is_exact_at, stored_at}
 use Rattle.fi_rules.specs.Arguments.{whole_of}
-use Rattle.fi_rules.specs.Checked.{Itself}
+use Rattle.fi_rules.specs.Checked.{Itself, Differs}
 use Rattle.fi_rules.specs.Options.{and_then, where_so}
+use Rattle.fi_rules.specs.Pairs.{governed_checked}
+use Rattle.fi_math.specs.Govern.{usual, governed}
+use Rattle.fi_math.specs.Same.{same_fimath}
 use Rattle.fi_rules.specs.Value.{scalar}
 use Rattle.fi_meaning.specs.Functions.{natural}
 use Rattle.fi_values.specs.Queries.{extent_along}
 use Rattle.fi_values.specs.Shapes.{common}
 use Rattle.node_rules.specs.Parted.{part_ruled, conjugate_ruled, complex_ruled}
 use Rattle.node_rules.specs.Queries.{asked_shape, numel_ruled, length_ruled, size_ruled}
-use Rattle.node_rules.specs.Ruled.{Missing, Shows, Misfit, bind, needed, tested}
+use Rattle.node_rules.specs.Ruled.{Missing, Shows, Misfit, bind, needed, ruled, tested}
 use Rattle.node_rules.specs.TypedPairs.{typed_pair_met}
 use Rattle.node_rules.specs.Types.{FiNode, LogicalNode, NumberNode, IndexNode, TextNode, known}
 use Rattle.node_rules.proofs.RangeRows.{number}
-use Rattle.node_rules.proofs.Rows.{u8, row_of_two, row_of_three, a2, a3}
+use Rattle.node_rules.proofs.Rows.{u8, floored, row_of_two, row_of_three, a2}
 
 -- a number and a logical have no parts
 numbers : part_ruled (NumberNode scalar [] None) ≡ Missing code.BadArgument (Shows Itself)
@@ -32,9 +35,14 @@ operands : complex_ruled a2 (FiNode u8 None true row_of_three) ≡ Missing code.
 unfolding typed_pair_met bind
 operands = refl
 
-shapes : complex_ruled a2 a3 ≡ Missing code.SizeMismatch (Misfit row_of_two row_of_three)
+shapes : complex_ruled (FiNode u8 (Some usual) false row_of_two) (FiNode u8 (Some floored) false row_of_three) ≡ Missing code.SizeMismatch (Misfit row_of_two row_of_three)
 unfolding typed_pair_met common bind tested needed
 shapes = refl
+
+-- fimaths that differ, behind the counts
+fimaths : complex_ruled (FiNode u8 (Some usual) false row_of_two) (FiNode u8 (Some floored) false scalar) ≡ Missing code.FimathDiffers (Shows (Differs usual floored))
+unfolding typed_pair_met common governed same_fimath governed_checked ruled bind tested needed
+fimaths = refl
 
 -- neither a text nor an index has a shape that is asked for
 texts : numel_ruled (TextNode []) ≡ Missing code.BadArgument (Shows Itself)

@@ -27,20 +27,21 @@ ghost use Rattle.node_rules.specs.Agrees.{Tells, evaluated_read, evaluated_store
 ghost use Rattle.node_rules.specs.Bits.{bits_paired, paired_value, complemented_ruled, complemented_value, shifted_ruled, shifted_value, sliced_ruled, sliced_value};
 ghost use Rattle.node_rules.specs.Brackets.{bracket_ruled, bracket_value};
 ghost use Rattle.node_rules.specs.Concatenated.{concatenated_ruled, concatenated_value};
-ghost use Rattle.node_rules.specs.Operators.{pair_ruled, pair_value};
+ghost use Rattle.node_rules.specs.Operators.{pair_worked, pair_ruled, pair_value};
 ghost use Rattle.fi_meaning.specs.Statements.{item_value};
 ghost use Rattle.node_rules.specs.Pairs.{Span, IsIn, span_worked, items_worked, arithmetic_value};
 ghost use Rattle.node_rules.specs.Parted.{part_ruled, real_value, imaginary_value, conjugate_ruled, conjugate_value, complex_ruled, complex_value};
 ghost use Rattle.node_rules.specs.Queries.{numel_ruled, length_ruled, size_ruled};
 ghost use Rattle.node_rules.specs.Ranges.{range_ruled, range_value};
-ghost use Rattle.node_rules.specs.Built.{has_rule, function_ruled, function_value};
+ghost use Rattle.node_rules.specs.Built.{Calling, calling_shape, has_rule, function_worked, function_ruled, function_value};
 ghost use Rattle.node_rules.specs.Ruled.{Fine, given};
+ghost use Rattle.node_rules.specs.Sides.{Meeting, meeting_shape};
 ghost use Rattle.node_rules.specs.Signs.{sign_ruled, sign_value};
 ghost use Rattle.node_rules.specs.Stores.{store_ruled, store_value};
 ghost use Rattle.node_rules.specs.Subscripts.{SoundItems, item_types, read_ruled, read_value};
 ghost use Rattle.node_rules.specs.Sums.{sum_ruled, sum_value};
 ghost use Rattle.node_rules.specs.Transposes.{post_ruled, post_value};
-ghost use Rattle.node_rules.specs.Types.{NodeTy, IndexNode, ty_of, known};
+ghost use Rattle.node_rules.specs.Types.{NodeTy, IndexNode, ty_of, shape_of, known};
 
 /// An operator with two operands gives what its rule says: a value exactly where the conditions of the rule hold on the types of the operands,
 /// and then the value of the node at the type that the rule gives.
@@ -149,4 +150,10 @@ pub fn queries_go_by_their_rules()
 /// takes and the conditions of the rule hold on their types, the one at the type of the node.
 pub fn built_in_functions_go_by_their_rules()
     ensures { (f : Function) (vs : List Val) → has_rule f ≡ true → functions.given f vs ≡ given (function_ruled f (map ty_of vs)) (λ t. function_value f t vs) }
+{}
+
+/// The shape by which the node of an operator or of a call of a built-in function is counted, before its type is worked out, is that of its type.
+pub fn nodes_are_counted_by_their_shapes()
+    ensures operators { (o : BinOp) (m : Meeting) (t : NodeTy) → pair_worked o m ≡ Fine t → shape_of t ≡ meeting_shape m }
+    ensures functions { (m : Calling) (t : NodeTy) → function_worked m ≡ Fine t → shape_of t ≡ calling_shape m }
 {}
