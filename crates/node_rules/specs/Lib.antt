@@ -22,5 +22,9 @@ pub mod Bits
 pub mod Concatenated
 pub mod Parted
 pub mod Queries
+pub mod Arguments
+pub mod Makers
+pub mod Filling
+pub mod Calls
 pub mod Texts
 pub mod Built

@@ -3,16 +3,20 @@
 //! type of its result, and the value of its node at that type. Laws: evaluation goes by these rules.
 #![tactic(auto)]
 
-ghost use Rattle.std.specs.Prelude.{◌≡◌, ◌<◌, ◌^◌, ℕ, ℤ, List, ◌∷◌, map, Option, Some, true, nat_abs};
+ghost use Rattle.std.specs.Prelude.{◌≡◌, ◌<◌, ◌^◌, ℕ, ℤ, Bool, List, ◌∷◌, map, Option, Some, true, nat_abs};
 ghost use Rattle.fic_base.specs.declared.place.Place.{Place};
 ghost use Rattle.mat_ast.specs.declared.tree.BinOp.{BinOp};
 ghost use Rattle.mat_ast.specs.declared.tree.PostOp.{PostOp};
 ghost use Rattle.mat_ast.specs.declared.tree.UnOp.{UnOp};
+ghost use Rattle.num_type.specs.Constants.{Exact};
 ghost use Rattle.fi_rules.specs.Value.{Val};
+ghost use Rattle.fi_rules.specs.declared.built_ins.BuiltIn.{BuiltIn};
+ghost use Rattle.fi_rules.specs.Calls.{Asked};
 ghost use Rattle.fi_rules.specs.declared.work.Work.{Work};
 ghost use Rattle.fi_values.specs.Arithmetic.{is_arithmetic, arithmetic};
 ghost use Rattle.fi_ops.specs.Elements.{Element};
-ghost use Rattle.fi_rules.specs.Options.{◌|>◌};
+ghost use Rattle.fi_rules.specs.Options.{◌|>◌, all_of};
+ghost use Rattle.fi_eval.specs.Outcome.{or_wrong};
 ghost use Rattle.fi_values.specs.Bits.{two_typed, turned_bits, shifted, concatenated_all, bits_between};
 ghost use Rattle.fi_values.specs.Brackets.{bracket};
 ghost use Rattle.fi_values.specs.Numbers.{is_bound};
@@ -21,9 +25,14 @@ ghost use Rattle.fi_values.specs.Ranges.{ranged};
 ghost use Rattle.fi_values.specs.Sums.{Along, summed_value};
 ghost use Rattle.fi_values.specs.Transposes.{transposed};
 ghost use Rattle.fi_meaning.specs.Functions as functions;
-ghost use Rattle.fi_meaning.specs.Functions.{Function, natural, conjugate_of};
+ghost use Rattle.fi_meaning.specs.Functions.{Function, Filled, natural, conjugate_of};
+ghost use Rattle.fi_meaning.specs.Calls.{Argument, element_ty, argument_types, values_of, by_rules, function_call, called_name};
 ghost use Rattle.fi_meaning.specs.Operators.{by_operator, by_sign};
 ghost use Rattle.node_rules.specs.Agrees.{Tells, evaluated_read, evaluated_store};
+ghost use Rattle.node_rules.specs.Arguments.{ArgumentTy, argument_tys, element_of, element_types};
+ghost use Rattle.node_rules.specs.Calls.{argument_items, call_ruled, call_value};
+ghost use Rattle.node_rules.specs.Filling.{Filling, filled_worked, filled_ruled, filling_shape, filled_value};
+ghost use Rattle.node_rules.specs.Makers.{maker_worked, maker_ruled, making_shape, first_ty, maker_value};
 ghost use Rattle.node_rules.specs.Bits.{bits_paired, paired_value, complemented_ruled, complemented_value, shifted_ruled, shifted_value, sliced_ruled, sliced_value};
 ghost use Rattle.node_rules.specs.Brackets.{bracket_ruled, bracket_value};
 ghost use Rattle.node_rules.specs.Concatenated.{concatenated_ruled, concatenated_value};
@@ -34,7 +43,7 @@ ghost use Rattle.node_rules.specs.Parted.{part_ruled, real_value, imaginary_valu
 ghost use Rattle.node_rules.specs.Queries.{numel_ruled, length_ruled, size_ruled};
 ghost use Rattle.node_rules.specs.Ranges.{range_ruled, range_value};
 ghost use Rattle.node_rules.specs.Built.{Calling, calling_shape, has_rule, function_worked, function_ruled, function_value};
-ghost use Rattle.node_rules.specs.Ruled.{Fine, given};
+ghost use Rattle.node_rules.specs.Ruled.{Fine, fine, given};
 ghost use Rattle.node_rules.specs.Sides.{Meeting, meeting_shape};
 ghost use Rattle.node_rules.specs.Signs.{sign_ruled, sign_value};
 ghost use Rattle.node_rules.specs.Stores.{store_ruled, store_value};
@@ -156,4 +165,37 @@ pub fn built_in_functions_go_by_their_rules()
 pub fn nodes_are_counted_by_their_shapes()
     ensures operators { (o : BinOp) (m : Meeting) (t : NodeTy) → pair_worked o m ≡ Fine t → shape_of t ≡ meeting_shape m }
     ensures functions { (m : Calling) (t : NodeTy) → function_worked m ≡ Fine t → shape_of t ≡ calling_shape m }
+{}
+
+/// The types of elements that the rules of calls ask for are those that evaluation asks for: of a value's elements, and of all arguments of a call,
+/// the first one taken into a type or not.
+pub fn element_types_are_those_of_values()
+    ensures elements { (v : Val) → element_ty v ≡ element_of (ty_of v) }
+    ensures arguments { (b : Bool) (args : List Argument) → argument_types b args ≡ element_types b (argument_tys args) }
+{}
+
+/// A call of `fi`, `numerictype`, `fimath`, `setfimath`, `removefimath`, `cast` or `abs` gives what its rule says, with any number of arguments: a
+/// value exactly where the conditions of the rule hold on their types, the one at the type of the node.
+pub fn makers_go_by_their_rules()
+    ensures { (at : Place) (b : BuiltIn) (args : List Argument) → by_rules at b args ≡ or_wrong at (given (maker_ruled b (argument_tys args)) (λ t. maker_value b t (values_of args))) }
+{}
+
+/// A call of `zeros` or `ones` gives what its rule says, likewise, also with `'like'` and a fi.
+pub fn filled_arrays_go_by_their_rule()
+    ensures { (at : Place) (z : Exact) (vs : List Val) → function_call at (Filled z) vs ≡ or_wrong at (given (filled_ruled z (map ty_of vs)) (λ t. filled_value z t)) }
+{}
+
+/// The shape of what such calls make is known before the limits of its type are tested, so that its elements can be counted between the two.
+pub fn shapes_are_known_before_limits()
+    ensures makers { (b : BuiltIn) (args : List ArgumentTy) (a : Asked) (t : NodeTy) → maker_worked b args a ≡ Fine t → shape_of t ≡ making_shape a (first_ty args) }
+    ensures filled { (z : Exact) (k : Filling) (t : NodeTy) → filled_worked z k ≡ Fine t → shape_of t ≡ filling_shape k }
+{}
+
+/// A call of a built-in function by its name gives what its rule says, with any arguments, words among them: a value exactly where the conditions of
+/// the rule hold, the one at the type of the node, which has that type. With `:` among the arguments the rule gives no type.
+pub fn calls_go_by_their_rules()
+    ensures value { (at : Place) (name : List ℕ) (args : List Argument)
+        → called_name at name args ≡ or_wrong at (given (call_ruled name (argument_items args)) (λ t. call_value name t args)) }
+    ensures typed { (name : List ℕ) (args : List Argument) (t : NodeTy) → call_ruled name (argument_items args) ≡ Fine t → ty_of (call_value name t args) ≡ t }
+    ensures colon { (name : List ℕ) (items : List (Option ArgumentTy)) → all_of items ≡ None → fine (call_ruled name items) ≡ None }
 {}

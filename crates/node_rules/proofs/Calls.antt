@@ -1,0 +1,90 @@
+-- Calls of built-in functions by their names go by their rules.
+use Rattle.std.proofs.Common.{◌≡◌, refl, sym, ap, subst, ◌∙◌, Bool, true, false, ℕ, List, map}
+use Rattle.std.specs.Prelude.{Option, Some, None}
+use Rattle.fic_base.specs.declared.place.Place.{Place}
+use Rattle.fi_rules.specs.declared.built_ins.BuiltIn.{BuiltIn}
+use Rattle.fi_rules.specs.Calls.{built_in_named}
+use Rattle.fi_rules.specs.Options.{all_of}
+use Rattle.fi_rules.specs.Value.{Val}
+use Rattle.fi_eval.specs.Outcome.{or_wrong}
+use Rattle.fi_meaning.specs.Calls.{Argument, takes, values_of, function_values, like_at_end, function_call, by_name, called_name}
+use Rattle.fi_meaning.specs.Functions as functions
+use Rattle.fi_meaning.specs.Functions.{Function, Filled, function_of}
+use Rattle.node_rules.specs.Arguments.{ArgumentTy, argument_tys, element_types}
+use Rattle.node_rules.specs.Built.{has_rule}
+use Rattle.node_rules.specs.Calls.{function_call_ruled, function_call_value, either_ruled, either_value, name_ruled, argument_items, is_told_before, excluded, items_call, call_ruled, call_value}
+use Rattle.node_rules.specs.Ruled.{Ruled, Fine, Missing, fine, given}
+use Rattle.node_rules.specs.Types.{NodeTy, ty_of}
+use Rattle.node_rules.proofs.Arguments.{function_types_are, all_arguments}
+use Rattle.node_rules.proofs.Built.{function_law}
+use Rattle.node_rules.proofs.Called.{called, by_types}
+use Rattle.node_rules.proofs.Filling.{filled_or, filled_call_is, filled_law}
+use Rattle.node_rules.proofs.Goes.{Goes, stops, goes_given, goes_typed}
+use Rattle.node_rules.proofs.Makers.{maker_law}
+
+-- ---- functions beside those of fi_rules
+
+unfoldable function_or : Function → List Val → Option Val
+function_or (Filled z) vs = filled_or z vs (like_at_end vs)
+function_or f vs = functions.given f vs
+
+function_call_is : (at : Place) (f : Function) (vs : List Val) → function_call at f vs ≡ or_wrong at (function_or f vs)
+unfolding function_call function_or
+function_call_is at (Filled z) vs = filled_call_is at z vs (like_at_end vs)
+function_call_is at f vs = refl
+
+function_call_law : (f : Function) (vs : List Val) → Goes (λ t. function_call_value f t vs) (function_or f vs) (function_call_ruled f (map ty_of vs))
+unfolding has_rule function_or function_call_value function_call_ruled
+function_call_law (Filled z) vs = filled_law z vs
+function_call_law f vs = function_law f vs refl
+
+-- ---- all of them
+
+unfoldable either_or : Option BuiltIn → Option Function → List Argument → Option Val
+either_or (Some b) f args = called b (element_types (takes b) (argument_tys args)) (values_of args)
+either_or None (Some f) args = function_or f (function_values f args)
+either_or None None args = None
+
+by_name_is : (at : Place) (b : Option BuiltIn) (f : Option Function) (args : List Argument) → by_name at b f args ≡ or_wrong at (either_or b f args)
+unfolding by_name either_or or_wrong
+by_name_is at (Some b) f args = by_types at b args
+by_name_is at None (Some f) args = function_call_is at f (function_values f args)
+by_name_is at None None args = refl
+
+either_law : (b : Option BuiltIn) (f : Option Function) (args : List Argument) → Goes (λ t. either_value b f t args) (either_or b f args) (either_ruled b f (argument_tys args))
+unfolding either_value either_or either_ruled
+either_law (Some b) f args = maker_law b args
+either_law None (Some f) args =
+    subst (λ ts. Goes (λ t. function_call_value f t (function_values f args)) (function_or f (function_values f args)) (function_call_ruled f ts)) (function_types_are f args) (function_call_law f (function_values f args))
+either_law None None args = stops _ _
+
+-- ---- with no `:` among the arguments
+
+items_are : (name : List ℕ) (args : List Argument) → call_ruled name (argument_items args) ≡ name_ruled name (argument_tys args)
+unfolding items_call
+items_are name args = ap (items_call name (argument_items args)) (all_arguments args)
+
+call_law : (name : List ℕ) (args : List Argument) → Goes (λ t. call_value name t args) (either_or (built_in_named name) (function_of name) args) (call_ruled name (argument_items args))
+call_law name args =
+    subst (λ c. Goes (λ t. call_value name t args) (either_or (built_in_named name) (function_of name) args) c) (sym (items_are name args)) (either_law (built_in_named name) (function_of name) args)
+
+pub call_given : (at : Place) (name : List ℕ) (args : List Argument) → called_name at name args ≡ or_wrong at (given (call_ruled name (argument_items args)) (λ t. call_value name t args))
+call_given at name args = by_name_is at (built_in_named name) (function_of name) args ∙ ap (λ o. or_wrong at o) (goes_given _ (call_law name args))
+
+pub call_typed : (name : List ℕ) (args : List Argument) (t : NodeTy) → call_ruled name (argument_items args) ≡ Fine t → ty_of (call_value name t args) ≡ t
+call_typed name args t e = goes_typed _ t (call_law name args) e
+
+-- ---- with one
+
+excluded_none : (c : Ruled NodeTy) → fine (excluded c) ≡ None
+unfolding excluded fine
+excluded_none (Fine t) = refl
+excluded_none (Missing code why) = of (is_told_before code) refl
+  where
+    of : (b : Bool) → is_told_before code ≡ b → fine (excluded (Missing code why)) ≡ None
+    of true e = rw e refl
+    of false e = rw e refl
+
+pub call_none : (name : List ℕ) (items : List (Option ArgumentTy)) → all_of items ≡ None → fine (call_ruled name items) ≡ None
+unfolding items_call
+call_none name items e = ap (λ o. fine (items_call name items o)) e ∙ excluded_none _
