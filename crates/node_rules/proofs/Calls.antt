@@ -11,16 +11,21 @@ use Rattle.fi_meaning.specs.Calls.{Argument, takes, values_of, function_values, 
 use Rattle.fi_meaning.specs.Functions as functions
 use Rattle.fi_meaning.specs.Functions.{Function, Filled, function_of}
 use Rattle.node_rules.specs.Arguments.{ArgumentTy, argument_tys, element_types}
-use Rattle.node_rules.specs.Built.{has_rule}
-use Rattle.node_rules.specs.Calls.{function_call_ruled, function_call_value, either_ruled, either_value, name_ruled, argument_items, is_told_before, excluded, items_call, call_ruled, call_value}
+use Rattle.node_rules.specs.Built.{has_rule, function_met}
+use Rattle.node_rules.specs.Calls.{NamedCall, Makes, Fills, Works, call_shape, function_call_met, function_call_value, either_met, either_value, name_met, argument_items, is_told_before, excluded, items_met, call_met, call_worked, call_ruled, call_value}
+use Rattle.node_rules.specs.Filling.{filled_met}
+use Rattle.node_rules.specs.Makers.{maker_met}
+use Rattle.node_rules.specs.Ruled as rules
 use Rattle.node_rules.specs.Ruled.{Ruled, Fine, Missing, fine, given}
-use Rattle.node_rules.specs.Types.{NodeTy, ty_of}
+use Rattle.node_rules.specs.Types.{NodeTy, ty_of, shape_of}
 use Rattle.node_rules.proofs.Arguments.{function_types_are, all_arguments}
 use Rattle.node_rules.proofs.Built.{function_law}
+use Rattle.node_rules.proofs.Counted.{calling_shaped}
 use Rattle.node_rules.proofs.Called.{called, by_types}
 use Rattle.node_rules.proofs.Filling.{filled_or, filled_call_is, filled_law}
 use Rattle.node_rules.proofs.Goes.{Goes, stops, goes_given, goes_typed}
 use Rattle.node_rules.proofs.Makers.{maker_law}
+use Rattle.node_rules.proofs.MakingShapes.{maker_shape, filled_shape}
 
 -- ---- functions beside those of fi_rules
 
@@ -33,10 +38,16 @@ unfolding function_call function_or
 function_call_is at (Filled z) vs = filled_call_is at z vs (like_at_end vs)
 function_call_is at f vs = refl
 
-function_call_law : (f : Function) (vs : List Val) → Goes (λ t. function_call_value f t vs) (function_or f vs) (function_call_ruled f (map ty_of vs))
-unfolding has_rule function_or function_call_value function_call_ruled
-function_call_law (Filled z) vs = filled_law z vs
-function_call_law f vs = function_law f vs refl
+-- what is kept between the two parts changes nothing
+kept : {A : Type 0} {o : Option Val} (val : NodeTy → Val) (c : Ruled A) (f : A → NamedCall) → Goes val o (rules.bind c (λ x. call_worked (f x))) → Goes val o (rules.bind (rules.bind c (λ x. Fine (f x))) call_worked)
+unfolding rules.bind
+kept val (Fine x) f h = h
+kept val (Missing code why) f h = h
+
+function_call_law : (f : Function) (vs : List Val) → Goes (λ t. function_call_value f t vs) (function_or f vs) (rules.bind (function_call_met f (map ty_of vs)) call_worked)
+unfolding has_rule function_or function_call_value function_call_met call_worked
+function_call_law (Filled z) vs = kept _ (filled_met (map ty_of vs)) (λ k. Fills z k) (filled_law z vs)
+function_call_law f vs = kept _ (function_met f (map ty_of vs)) (λ m. Works m) (function_law f vs refl)
 
 -- ---- all of them
 
@@ -51,22 +62,22 @@ by_name_is at (Some b) f args = by_types at b args
 by_name_is at None (Some f) args = function_call_is at f (function_values f args)
 by_name_is at None None args = refl
 
-either_law : (b : Option BuiltIn) (f : Option Function) (args : List Argument) → Goes (λ t. either_value b f t args) (either_or b f args) (either_ruled b f (argument_tys args))
-unfolding either_value either_or either_ruled
-either_law (Some b) f args = maker_law b args
+either_law : (b : Option BuiltIn) (f : Option Function) (args : List Argument) → Goes (λ t. either_value b f t args) (either_or b f args) (rules.bind (either_met b f (argument_tys args)) call_worked)
+unfolding either_value either_or either_met call_worked rules.bind
+either_law (Some b) f args = kept _ (maker_met b (argument_tys args)) (λ a. Makes b (argument_tys args) a) (maker_law b args)
 either_law None (Some f) args =
-    subst (λ ts. Goes (λ t. function_call_value f t (function_values f args)) (function_or f (function_values f args)) (function_call_ruled f ts)) (function_types_are f args) (function_call_law f (function_values f args))
+    subst (λ ts. Goes (λ t. function_call_value f t (function_values f args)) (function_or f (function_values f args)) (rules.bind (function_call_met f ts) call_worked)) (function_types_are f args) (function_call_law f (function_values f args))
 either_law None None args = stops _ _
 
 -- ---- with no `:` among the arguments
 
-items_are : (name : List ℕ) (args : List Argument) → call_ruled name (argument_items args) ≡ name_ruled name (argument_tys args)
-unfolding items_call
-items_are name args = ap (items_call name (argument_items args)) (all_arguments args)
+items_are : (name : List ℕ) (args : List Argument) → call_met name (argument_items args) ≡ name_met name (argument_tys args)
+unfolding items_met
+items_are name args = ap (items_met name (argument_items args)) (all_arguments args)
 
 call_law : (name : List ℕ) (args : List Argument) → Goes (λ t. call_value name t args) (either_or (built_in_named name) (function_of name) args) (call_ruled name (argument_items args))
 call_law name args =
-    subst (λ c. Goes (λ t. call_value name t args) (either_or (built_in_named name) (function_of name) args) c) (sym (items_are name args)) (either_law (built_in_named name) (function_of name) args)
+    subst (λ c. Goes (λ t. call_value name t args) (either_or (built_in_named name) (function_of name) args) (rules.bind c call_worked)) (sym (items_are name args)) (either_law (built_in_named name) (function_of name) args)
 
 pub call_given : (at : Place) (name : List ℕ) (args : List Argument) → called_name at name args ≡ or_wrong at (given (call_ruled name (argument_items args)) (λ t. call_value name t args))
 call_given at name args = by_name_is at (built_in_named name) (function_of name) args ∙ ap (λ o. or_wrong at o) (goes_given _ (call_law name args))
@@ -76,15 +87,23 @@ call_typed name args t e = goes_typed _ t (call_law name args) e
 
 -- ---- with one
 
-excluded_none : (c : Ruled NodeTy) → fine (excluded c) ≡ None
+excluded_none : {A : Type 0} (c : Ruled A) → fine (excluded c) ≡ None
 unfolding excluded fine
-excluded_none (Fine t) = refl
-excluded_none (Missing code why) = of (is_told_before code) refl
+excluded_none (Fine x) = refl
+excluded_none {A = A} (Missing code why) = of (is_told_before code) refl
   where
-    of : (b : Bool) → is_told_before code ≡ b → fine (excluded (Missing code why)) ≡ None
+    of : (b : Bool) → is_told_before code ≡ b → fine (excluded {A = A} (Missing code why)) ≡ None
     of true e = rw e refl
     of false e = rw e refl
 
-pub call_none : (name : List ℕ) (items : List (Option ArgumentTy)) → all_of items ≡ None → fine (call_ruled name items) ≡ None
-unfolding items_call
-call_none name items e = ap (λ o. fine (items_call name items o)) e ∙ excluded_none _
+pub call_none : (name : List ℕ) (items : List (Option ArgumentTy)) → all_of items ≡ None → fine (call_met name items) ≡ None
+unfolding items_met
+call_none name items e = ap (λ o. fine (items_met name items o)) e ∙ excluded_none _
+
+-- ---- the shape of the node
+
+pub call_shaped : (m : NamedCall) (t : NodeTy) → call_worked m ≡ Fine t → shape_of t ≡ call_shape m
+unfolding call_worked call_shape
+call_shaped (Makes b args a) t e = maker_shape b args a t e
+call_shaped (Fills z k) t e = filled_shape z k t e
+call_shaped (Works m) t e = calling_shaped m t e

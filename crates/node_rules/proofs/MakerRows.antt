@@ -18,7 +18,7 @@ use Rattle.fi_values.specs.Numbers.{nought, one}
 use Rattle.fi_meaning.specs.Calls.{single_ty, takes}
 use Rattle.fi_meaning.specs.Functions.{natural, function_of}
 use Rattle.node_rules.specs.Arguments.{ArgumentTy, plain, wanted_node, element_of, constant_of, value_of, element_types}
-use Rattle.node_rules.specs.Calls.{function_types, function_call_ruled, either_ruled, stand_in, is_told_before, excluded, items_call, call_ruled}
+use Rattle.node_rules.specs.Calls.{function_types, function_call_met, either_met, stand_in, is_told_before, excluded, items_met, call_met, call_worked, call_ruled}
 use Rattle.node_rules.specs.Filling.{whole_constant, may_size, is_like, filled_met, filled_node, filled_worked, filled_ruled}
 use Rattle.node_rules.specs.Makers.{is_complex_fi, is_supported, takes_parts, maker_met, first_ty, is_complex_call, object_node, built_node, maker_ruled}
 use Rattle.node_rules.specs.Ranges.{is_fi}
@@ -318,28 +318,28 @@ like_a_complex_fi = refl
 -- ---- calls by name, and `:` as an argument
 
 -- abs(:, :), and then abs(:)
-counted_colons : call_ruled (codes "abs") (None ∷ None ∷ []) ≡ counted 2 1
-unfolding items_call all_of and_then excluded either_ruled built_in_named named bind tested is_supported is_complex_fi stand_in ruled asked abs_asked element_types takes is_told_before
+counted_colons : call_met (codes "abs") (None ∷ None ∷ []) ≡ counted 2 1
+unfolding items_met all_of and_then excluded either_met built_in_named named bind tested is_supported is_complex_fi stand_in ruled asked abs_asked element_types takes is_told_before
 counted_colons = refl
 
-one_colon : call_ruled (codes "abs") (None ∷ []) ≡ excluded_argument
-unfolding items_call all_of and_then excluded either_ruled built_in_named named bind tested is_supported is_complex_fi stand_in ruled asked abs_asked element_types takes sign_asked constant_of wanted_node element_of is_told_before
+one_colon : call_met (codes "abs") (None ∷ []) ≡ excluded_argument
+unfolding items_met all_of and_then excluded either_met built_in_named named bind tested is_supported is_complex_fi stand_in ruled asked abs_asked element_types takes sign_asked constant_of wanted_node element_of is_told_before
 one_colon = refl
 
-size_colon : call_ruled (codes "zeros") (Some (plain a) ∷ None ∷ []) ≡ excluded_argument
-unfolding items_call all_of and_then excluded either_ruled built_in_named named function_of function_call_ruled bind filled_met function_types tested may_size wanted_node stand_in is_told_before
+size_colon : call_met (codes "zeros") (Some (plain a) ∷ None ∷ []) ≡ excluded_argument
+unfolding items_met all_of and_then excluded either_met built_in_named named function_of function_call_met bind filled_met function_types tested may_size wanted_node stand_in is_told_before
 size_colon = refl
 
 -- the word true is the extent 1, and a logical is none
 word_size : call_ruled (codes "ones") (Some word_true ∷ []) ≡ Fine (filled_node one scalar)
-unfolding items_call all_of and_then either_ruled built_in_named named function_of function_call_ruled bind filled_met function_types tested may_size wanted_node whole_constant where_so whole_of is_exact_at needed natural known stored_at filled_worked
+unfolding items_met all_of and_then either_met built_in_named named function_of function_call_met bind filled_met function_types tested may_size wanted_node whole_constant where_so whole_of is_exact_at needed natural known stored_at filled_worked call_worked
 word_size = refl
 
-logical_size : call_ruled (codes "ones") (Some (plain truth) ∷ []) ≡ Missing code.DynamicSize (Shows Itself)
-unfolding items_call all_of and_then either_ruled built_in_named named function_of function_call_ruled bind filled_met function_types tested may_size wanted_node needed natural known
+logical_size : call_met (codes "ones") (Some (plain truth) ∷ []) ≡ Missing code.DynamicSize (Shows Itself)
+unfolding items_met all_of and_then either_met built_in_named named function_of function_call_met bind filled_met function_types tested may_size wanted_node needed natural known
 logical_size = refl
 
 -- a name that is no function's
-unknown : call_ruled (codes "nothing") (None ∷ []) ≡ Missing code.UnknownName (Shows Itself)
-unfolding items_call all_of and_then excluded either_ruled built_in_named named function_of is_told_before
+unknown : call_met (codes "nothing") (None ∷ []) ≡ Missing code.UnknownName (Shows Itself)
+unfolding items_met all_of and_then excluded either_met built_in_named named function_of is_told_before
 unknown = refl

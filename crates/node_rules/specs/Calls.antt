@@ -1,20 +1,34 @@
--- Calls of built-in functions by their names: the rule of each on the types of its arguments, and its value at the type of the node.
+-- Calls of built-in functions by their names: the rule of each on the types of its arguments, in two parts with the counts between them, and its
+-- value at the type of the node.
 use Rattle.std.specs.Prelude.{ℕ, Bool, true, false, if◌then◌else◌, List, [], ◌∷◌, map, Option, Some, None}
 use Rattle.fic_base.specs.declared.code.Code.{Code}
 use Rattle.fic_base.specs.declared.code.Code.TheVariants as code
+use Rattle.num_type.specs.Constants.{Exact}
 use Rattle.fi_rules.specs.declared.built_ins.BuiltIn.{BuiltIn}
-use Rattle.fi_rules.specs.Calls.{built_in_named}
+use Rattle.fi_rules.specs.Calls.{Asked, built_in_named}
 use Rattle.fi_rules.specs.Checked.{Itself}
 use Rattle.fi_rules.specs.Options.{all_of}
-use Rattle.fi_rules.specs.Value.{Val}
+use Rattle.fi_rules.specs.Value.{Shape, Val}
 use Rattle.fi_meaning.specs.Calls.{Argument, values_of, function_values}
 use Rattle.fi_meaning.specs.Functions.{Function, Filled, function_of}
 use Rattle.node_rules.specs.Arguments.{ArgumentTy, plain, argument_ty, constant_node}
-use Rattle.node_rules.specs.Built.{function_ruled, function_value}
-use Rattle.node_rules.specs.Filling.{filled_ruled, filled_value}
-use Rattle.node_rules.specs.Makers.{maker_ruled, maker_value}
-use Rattle.node_rules.specs.Ruled.{Ruled, Fine, Missing, Shows}
+use Rattle.node_rules.specs.Built.{Calling, calling_shape, function_met, function_worked, function_value}
+use Rattle.node_rules.specs.Filling.{Filling, filling_shape, filled_met, filled_worked, filled_value}
+use Rattle.node_rules.specs.Makers.{making_shape, first_ty, maker_met, maker_worked, maker_value}
+use Rattle.node_rules.specs.Ruled.{Ruled, Fine, Missing, Shows, ◌>>=◌}
 use Rattle.node_rules.specs.Types.{NodeTy, TextNode, known}
+
+-- what of a call is to be worked out behind the counts
+pub data NamedCall : Type 0 where
+  Makes : BuiltIn → List ArgumentTy → Asked → NamedCall
+  Fills : Exact → Filling → NamedCall
+  Works : Calling → NamedCall
+
+-- the shape of its result
+unfoldable pub call_shape : NamedCall → Shape
+call_shape (Makes b args a) = making_shape a (first_ty args)
+call_shape (Fills z k) = filling_shape k
+call_shape (Works m) = calling_shape m
 
 -- ---- functions beside those of fi_rules
 
@@ -24,9 +38,9 @@ function_types (Filled z) args = map constant_node args
 function_types f [] = []
 function_types f (a ∷ more) = a.ty ∷ map constant_node more
 
-unfoldable pub function_call_ruled : Function → List NodeTy → Ruled NodeTy
-function_call_ruled (Filled z) ts = filled_ruled z ts
-function_call_ruled f ts = function_ruled f ts
+unfoldable pub function_call_met : Function → List NodeTy → Ruled NamedCall
+function_call_met (Filled z) ts = filled_met ts >>= (λ k. Fine (Fills z k))
+function_call_met f ts = function_met f ts >>= (λ m. Fine (Works m))
 
 unfoldable pub function_call_value : Function → NodeTy → List Val → Val
 function_call_value (Filled z) t vs = filled_value z t
@@ -35,18 +49,18 @@ function_call_value f t vs = function_value f t vs
 -- ---- all of them
 
 -- another name is told here to be unknown: those that aren't supported, and divisions, are told before
-unfoldable pub either_ruled : Option BuiltIn → Option Function → List ArgumentTy → Ruled NodeTy
-either_ruled (Some b) f args = maker_ruled b args
-either_ruled None (Some f) args = function_call_ruled f (function_types f args)
-either_ruled None None args = Missing code.UnknownName (Shows Itself)
+unfoldable pub either_met : Option BuiltIn → Option Function → List ArgumentTy → Ruled NamedCall
+either_met (Some b) f args = maker_met b args >>= (λ a. Fine (Makes b args a))
+either_met None (Some f) args = function_call_met f (function_types f args)
+either_met None None args = Missing code.UnknownName (Shows Itself)
 
 unfoldable pub either_value : Option BuiltIn → Option Function → NodeTy → List Argument → Val
 either_value (Some b) f t args = maker_value b t (values_of args)
 either_value None (Some f) t args = function_call_value f t (function_values f args)
 either_value None None t args = known t
 
-abbrev pub name_ruled : List ℕ → List ArgumentTy → Ruled NodeTy
-name_ruled name args = either_ruled (built_in_named name) (function_of name) args
+abbrev pub name_met : List ℕ → List ArgumentTy → Ruled NamedCall
+name_met name args = either_met (built_in_named name) (function_of name) args
 
 -- ---- `:` as an argument, for which none stands: no call takes it
 
@@ -65,17 +79,29 @@ is_told_before code.Unsupported = true
 is_told_before code.ArgCount = true
 is_told_before c = false
 
-unfoldable pub excluded : Ruled NodeTy → Ruled NodeTy
-excluded (Fine t) = Missing code.BadArgument (Shows Itself)
+unfoldable pub excluded : {A : Type 0} → Ruled A → Ruled A
+excluded (Fine x) = Missing code.BadArgument (Shows Itself)
 excluded (Missing c why) = if is_told_before c then Missing c why else Missing code.BadArgument (Shows Itself)
 
-unfoldable pub items_call : List ℕ → List (Option ArgumentTy) → Option (List ArgumentTy) → Ruled NodeTy
-items_call name items None = excluded (name_ruled name (map stand_in items))
-items_call name items (Some args) = name_ruled name args
+unfoldable pub items_met : List ℕ → List (Option ArgumentTy) → Option (List ArgumentTy) → Ruled NamedCall
+items_met name items None = excluded (name_met name (map stand_in items))
+items_met name items (Some args) = name_met name args
+
+-- ---- the two parts of the rule
+
+-- before the node is counted
+abbrev pub call_met : List ℕ → List (Option ArgumentTy) → Ruled NamedCall
+call_met name items = items_met name items (all_of items)
+
+-- behind the counts
+unfoldable pub call_worked : NamedCall → Ruled NodeTy
+call_worked (Makes b args a) = maker_worked b args a
+call_worked (Fills z k) = filled_worked z k
+call_worked (Works m) = function_worked m
 
 -- the type of a call's node
 abbrev pub call_ruled : List ℕ → List (Option ArgumentTy) → Ruled NodeTy
-call_ruled name items = items_call name items (all_of items)
+call_ruled name items = call_met name items >>= call_worked
 
 -- the value of a call's node of this type
 abbrev pub call_value : List ℕ → NodeTy → List Argument → Val

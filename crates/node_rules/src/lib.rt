@@ -11,7 +11,6 @@ ghost use Rattle.mat_ast.specs.declared.tree.UnOp.{UnOp};
 ghost use Rattle.num_type.specs.Constants.{Exact};
 ghost use Rattle.fi_rules.specs.Value.{Val};
 ghost use Rattle.fi_rules.specs.declared.built_ins.BuiltIn.{BuiltIn};
-ghost use Rattle.fi_rules.specs.Calls.{Asked};
 ghost use Rattle.fi_rules.specs.declared.work.Work.{Work};
 ghost use Rattle.fi_values.specs.Arithmetic.{is_arithmetic, arithmetic};
 ghost use Rattle.fi_ops.specs.Elements.{Element};
@@ -30,9 +29,9 @@ ghost use Rattle.fi_meaning.specs.Calls.{Argument, element_ty, argument_types, v
 ghost use Rattle.fi_meaning.specs.Operators.{by_operator, by_sign};
 ghost use Rattle.node_rules.specs.Agrees.{Tells, evaluated_read, evaluated_store};
 ghost use Rattle.node_rules.specs.Arguments.{ArgumentTy, argument_tys, element_of, element_types};
-ghost use Rattle.node_rules.specs.Calls.{argument_items, call_ruled, call_value};
-ghost use Rattle.node_rules.specs.Filling.{Filling, filled_worked, filled_ruled, filling_shape, filled_value};
-ghost use Rattle.node_rules.specs.Makers.{maker_worked, maker_ruled, making_shape, first_ty, maker_value};
+ghost use Rattle.node_rules.specs.Calls.{argument_items, NamedCall, call_shape, call_met, call_worked, call_ruled, call_value};
+ghost use Rattle.node_rules.specs.Filling.{filled_ruled, filled_value};
+ghost use Rattle.node_rules.specs.Makers.{maker_ruled, maker_value};
 ghost use Rattle.node_rules.specs.Bits.{bits_paired, paired_value, complemented_ruled, complemented_value, shifted_ruled, shifted_value, sliced_ruled, sliced_value};
 ghost use Rattle.node_rules.specs.Brackets.{bracket_ruled, bracket_value};
 ghost use Rattle.node_rules.specs.Concatenated.{concatenated_ruled, concatenated_value};
@@ -185,17 +184,13 @@ pub fn filled_arrays_go_by_their_rule()
     ensures { (at : Place) (z : Exact) (vs : List Val) → function_call at (Filled z) vs ≡ or_wrong at (given (filled_ruled z (map ty_of vs)) (λ t. filled_value z t)) }
 {}
 
-/// The shape of what such calls make is known before the limits of its type are tested, so that its elements can be counted between the two.
-pub fn shapes_are_known_before_limits()
-    ensures makers { (b : BuiltIn) (args : List ArgumentTy) (a : Asked) (t : NodeTy) → maker_worked b args a ≡ Fine t → shape_of t ≡ making_shape a (first_ty args) }
-    ensures filled { (z : Exact) (k : Filling) (t : NodeTy) → filled_worked z k ≡ Fine t → shape_of t ≡ filling_shape k }
-{}
-
 /// A call of a built-in function by its name gives what its rule says, with any arguments, words among them: a value exactly where the conditions of
-/// the rule hold, the one at the type of the node, which has that type. With `:` among the arguments the rule gives no type.
+/// the rule hold, the one at the type of the node, which has that type. With `:` among the arguments a condition is missing. The shape by which the node
+/// is counted is that of its type.
 pub fn calls_go_by_their_rules()
     ensures value { (at : Place) (name : List ℕ) (args : List Argument)
         → called_name at name args ≡ or_wrong at (given (call_ruled name (argument_items args)) (λ t. call_value name t args)) }
     ensures typed { (name : List ℕ) (args : List Argument) (t : NodeTy) → call_ruled name (argument_items args) ≡ Fine t → ty_of (call_value name t args) ≡ t }
-    ensures colon { (name : List ℕ) (items : List (Option ArgumentTy)) → all_of items ≡ None → fine (call_ruled name items) ≡ None }
+    ensures colon { (name : List ℕ) (items : List (Option ArgumentTy)) → all_of items ≡ None → fine (call_met name items) ≡ None }
+    ensures shape { (m : NamedCall) (t : NodeTy) → call_worked m ≡ Fine t → shape_of t ≡ call_shape m }
 {}
