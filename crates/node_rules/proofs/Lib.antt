@@ -35,6 +35,7 @@ pub mod Queries
 pub mod PartedRows
 pub mod TextRows
 pub mod Built
+pub mod WordValues
 pub mod Calls
 pub mod MakerRows
 pub mod BuiltRows

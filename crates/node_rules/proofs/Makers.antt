@@ -117,7 +117,7 @@ abs_law (a ∷ b ∷ more) = no_call built_in.Abs (a ∷ b ∷ more) _ refl
 
 -- ---- cast
 
-goes_as : (val : NodeTy → Val) (t : NodeTy) (x : Val) → val t ≡ x → ty_of x ≡ t → Goes val (Some x) (Fine t)
+pub goes_as : (val : NodeTy → Val) (t : NodeTy) (x : Val) → val t ≡ x → ty_of x ≡ t → Goes val (Some x) (Fine t)
 goes_as val t x e h = subst (λ y. Goes val (Some y) (Fine t)) e (goes t (ap ty_of e ∙ h))
 
 -- the value of a node of this type is that of the call

@@ -9,7 +9,7 @@ use Rattle.fi_rules.specs.Calls.{Asked, built_in_named}
 use Rattle.fi_rules.specs.Checked.{Itself}
 use Rattle.fi_rules.specs.Options.{all_of}
 use Rattle.fi_rules.specs.Value.{Shape, Val}
-use Rattle.fi_meaning.specs.Calls.{Argument, values_of, function_values}
+use Rattle.fi_meaning.specs.Calls.{Argument, constant_value}
 use Rattle.fi_meaning.specs.Functions.{Function, Filled, function_of}
 use Rattle.node_rules.specs.Arguments.{ArgumentTy, plain, argument_ty, constant_node}
 use Rattle.node_rules.specs.Built.{Calling, calling_shape, function_met, function_worked, function_value}
@@ -54,10 +54,15 @@ either_met (Some b) f args = maker_met b args >>= (λ a. Fine (Makes b args a))
 either_met None (Some f) args = function_call_met f (function_types f args)
 either_met None None args = Missing code.UnknownName (Shows Itself)
 
-unfoldable pub either_value : Option BuiltIn → Option Function → NodeTy → List Argument → Val
-either_value (Some b) f t args = maker_value b t (values_of args)
-either_value None (Some f) t args = function_call_value f t (function_values f args)
-either_value None None t args = known t
+-- behind the first argument a logical is a word, where there is a rule
+unfoldable pub number_values : List Val → List Val
+number_values [] = []
+number_values (v ∷ more) = v ∷ map (λ w. constant_value w true) more
+
+unfoldable pub either_value : Option BuiltIn → Option Function → NodeTy → List Val → Val
+either_value (Some b) f t vs = maker_value b t vs
+either_value None (Some f) t vs = function_call_value f t (number_values vs)
+either_value None None t vs = known t
 
 abbrev pub name_met : List ℕ → List ArgumentTy → Ruled NamedCall
 name_met name args = either_met (built_in_named name) (function_of name) args
@@ -103,6 +108,6 @@ call_worked (Works m) = function_worked m
 abbrev pub call_ruled : List ℕ → List (Option ArgumentTy) → Ruled NodeTy
 call_ruled name items = call_met name items >>= call_worked
 
--- the value of a call's node of this type
-abbrev pub call_value : List ℕ → NodeTy → List Argument → Val
-call_value name t args = either_value (built_in_named name) (function_of name) t args
+-- the value of a call's node of this type, of the values of its arguments
+abbrev pub built_in_value : List ℕ → NodeTy → List Val → Val
+built_in_value name t vs = either_value (built_in_named name) (function_of name) t vs

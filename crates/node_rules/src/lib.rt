@@ -29,7 +29,7 @@ ghost use Rattle.fi_meaning.specs.Calls.{Argument, element_ty, argument_types, v
 ghost use Rattle.fi_meaning.specs.Operators.{by_operator, by_sign};
 ghost use Rattle.node_rules.specs.Agrees.{Tells, evaluated_read, evaluated_store};
 ghost use Rattle.node_rules.specs.Arguments.{ArgumentTy, argument_tys, element_of, element_types};
-ghost use Rattle.node_rules.specs.Calls.{argument_items, NamedCall, call_shape, call_met, call_worked, call_ruled, call_value};
+ghost use Rattle.node_rules.specs.Calls.{argument_items, NamedCall, call_shape, call_met, call_worked, call_ruled, built_in_value};
 ghost use Rattle.node_rules.specs.Filling.{filled_ruled, filled_value};
 ghost use Rattle.node_rules.specs.Makers.{maker_ruled, maker_value};
 ghost use Rattle.node_rules.specs.Bits.{bits_paired, paired_value, complemented_ruled, complemented_value, shifted_ruled, shifted_value, sliced_ruled, sliced_value};
@@ -185,12 +185,12 @@ pub fn filled_arrays_go_by_their_rule()
 {}
 
 /// A call of a built-in function by its name gives what its rule says, with any arguments, words among them: a value exactly where the conditions of
-/// the rule hold, the one at the type of the node, which has that type. With `:` among the arguments a condition is missing. The shape by which the node
-/// is counted is that of its type.
+/// the rule hold, the one at the type of the node that the values of the arguments make, whichever of them are words; it has that type. With `:`
+/// among the arguments a condition is missing. The shape by which the node is counted is that of its type.
 pub fn calls_go_by_their_rules()
     ensures value { (at : Place) (name : List ℕ) (args : List Argument)
-        → called_name at name args ≡ or_wrong at (given (call_ruled name (argument_items args)) (λ t. call_value name t args)) }
-    ensures typed { (name : List ℕ) (args : List Argument) (t : NodeTy) → call_ruled name (argument_items args) ≡ Fine t → ty_of (call_value name t args) ≡ t }
+        → called_name at name args ≡ or_wrong at (given (call_ruled name (argument_items args)) (λ t. built_in_value name t (values_of args))) }
+    ensures typed { (name : List ℕ) (args : List Argument) (t : NodeTy) → call_ruled name (argument_items args) ≡ Fine t → ty_of (built_in_value name t (values_of args)) ≡ t }
     ensures colon { (name : List ℕ) (items : List (Option ArgumentTy)) → all_of items ≡ None → fine (call_met name items) ≡ None }
     ensures shape { (m : NamedCall) (t : NodeTy) → call_worked m ≡ Fine t → shape_of t ≡ call_shape m }
 {}
