@@ -1,12 +1,12 @@
 -- Ranges go by their rule.
-use Rattle.std.proofs.Common.{◌≡◌, refl, ◌∙◌, Bool, true, false}
+use Rattle.std.proofs.Common.{◌≡◌, refl, sym, ◌∙◌, Bool, true, false}
 use Rattle.std.specs.Prelude.{ℤ, ◌&&◌, nat_lt, nat_le, map, Option, Some, None}
 use Rattle.fi_rules.specs.Options.{and_then, ◌|>◌, where_so}
 use Rattle.fi_rules.specs.Value.{Val, Number}
 use Rattle.fi_values.specs.Numbers.{constant, bound_of}
-use Rattle.fi_values.specs.Ranges.{item_count, items, ranged}
-use Rattle.node_rules.specs.Ranges.{may_bound, is_truth, is_fi, bound_ruled, row_ruled, bounds_ruled, range_ruled, range_value}
-use Rattle.node_rules.specs.Ruled.{Ruled, Fine, Missing, bind, needed, tested, fine}
+use Rattle.fi_values.specs.Ranges.{item_count, items, items_of, ranged}
+use Rattle.node_rules.specs.Ranges.{may_bound, is_truth, is_fi, bound_ruled, row_ruled, bounds_ruled, range_ruled, range_value, items_at, turns_ruled, loop_ruled}
+use Rattle.node_rules.specs.Ruled.{Ruled, Fine, Missing, bind, needed, tested, fine, given}
 use Rattle.node_rules.specs.Types.{NodeTy, ty_of, known, is_index}
 use Rattle.node_rules.proofs.Binds.{fine_needed}
 use Rattle.node_rules.proofs.Goes.{Goes, goes, stops}
@@ -66,3 +66,28 @@ range_law v s y = of (bound v) (bound s) (bound y)
     of (other e f) q r = rw e (nothing range_value (range_ruled (ty_of v) (ty_of s) (ty_of y)) (none_in (ty_of v) (ty_of s) (ty_of y) (none_first (ty_of v) (ty_of s) (ty_of y) f)))
     of (whole a e f g h i j) (other e1 f1) r = rw (e, e1) (nothing range_value (range_ruled (ty_of v) (ty_of s) (ty_of y)) (none_in (ty_of v) (ty_of s) (ty_of y) (none_second (ty_of v) (ty_of s) (ty_of y) f1)))
     of (whole a e f g h i j) (whole b e1 f1 g1 h1 i1 j1) (other e2 f2) = rw (e, e1, e2) (nothing range_value (range_ruled (ty_of v) (ty_of s) (ty_of y)) (none_in (ty_of v) (ty_of s) (ty_of y) (none_third (ty_of v) (ty_of s) (ty_of y) f2)))
+
+-- ---- in the head of a loop
+
+none_turns : (x s y : NodeTy) → fine (turns_ruled x s y) ≡ None → given (loop_ruled x s y) (λ l. items_at l.first l.step l.count) ≡ None
+unfolding and_then
+none_turns x s y e = let h : fine (loop_ruled x s y) ≡ None = fine_none _ _ (λ x. fine_none _ _ (λ x. e)) in rw h refl
+
+loop_first : (x s y : NodeTy) → bound_of (known x) ≡ None → fine (turns_ruled x s y) ≡ None
+loop_first x s y e = fine_stops (bound_ruled x) _ (none_bound x e)
+
+loop_second : (x s y : NodeTy) → bound_of (known s) ≡ None → fine (turns_ruled x s y) ≡ None
+loop_second x s y e = fine_none (bound_ruled x) _ (λ a. fine_stops (bound_ruled s) _ (none_bound s e))
+
+loop_third : (x s y : NodeTy) → bound_of (known y) ≡ None → fine (turns_ruled x s y) ≡ None
+loop_third x s y e = fine_none (bound_ruled x) _ (λ a. fine_none (bound_ruled s) _ (λ b. fine_stops (bound_ruled y) _ (none_bound y e)))
+
+pub loop_law : (v s y : Val) → items_of v s y ≡ given (loop_ruled (ty_of v) (ty_of s) (ty_of y)) (λ l. items_at l.first l.step l.count)
+unfolding and_then bind tested needed fine
+loop_law v s y = of (bound v) (bound s) (bound y)
+  where
+    of : Bound v → Bound s → Bound y → items_of v s y ≡ given (loop_ruled (ty_of v) (ty_of s) (ty_of y)) (λ l. items_at l.first l.step l.count)
+    of (whole a e f g h i j) (whole b e1 f1 g1 h1 i1 j1) (whole c e2 f2 g2 h2 i2 j2) = rw (e, e1, e2, f, f1, f2, g, g1, g2, h, h1, h2, i, i1, i2) refl
+    of (other e f) q r = rw e (sym (none_turns (ty_of v) (ty_of s) (ty_of y) (loop_first (ty_of v) (ty_of s) (ty_of y) f)))
+    of (whole a e f g h i j) (other e1 f1) r = rw (e, e1) (sym (none_turns (ty_of v) (ty_of s) (ty_of y) (loop_second (ty_of v) (ty_of s) (ty_of y) f1)))
+    of (whole a e f g h i j) (whole b e1 f1 g1 h1 i1 j1) (other e2 f2) = rw (e, e1, e2) (sym (none_turns (ty_of v) (ty_of s) (ty_of y) (loop_third (ty_of v) (ty_of s) (ty_of y) f2)))

@@ -1,8 +1,9 @@
 -- Ranges as values: their conditions in the order of the codes, and the row of numbers that they are.
-use Rattle.std.specs.Prelude.{ℤ, Bool, true, false, not, ◌&&◌, ◌||◌, nat_lt, nat_le, map, is_some, None}
+use Rattle.std.specs.Prelude.{ℕ, ℤ, pos, ◌+ℤ◌, ◌*ℤ◌, Bool, true, false, not, ◌&&◌, ◌||◌, nat_lt, nat_le, List, map, is_some, None}
 use Rattle.fic_base.specs.declared.code.Code.TheVariants as code
 use Rattle.fi_rules.specs.Checked.{Itself}
 use Rattle.fi_rules.specs.Value.{Val}
+use Rattle.fi_values.specs.Elements.{below}
 use Rattle.fi_values.specs.Numbers.{constant, bound_of}
 use Rattle.fi_values.specs.Ranges.{item_count, items}
 use Rattle.node_rules.specs.Ruled.{Ruled, Fine, Shows, Most, ◌>>=◌, needed, tested}
@@ -53,3 +54,25 @@ range_ruled x s y =
 
 abbrev pub range_value : NodeTy → Val
 range_value t = known t
+
+-- ---- in the head of a loop
+
+-- the items of a loop: the first, the step, and how many
+pub record Turns : Type 0 where
+  pub first : ℤ
+  pub step : ℤ
+  pub count : ℕ
+
+-- the items in their order
+abbrev pub items_at : ℤ → ℤ → ℕ → List ℤ
+items_at first step count = map (λ k. first +ℤ step *ℤ pos k) (below count)
+
+abbrev pub turns_ruled : NodeTy → NodeTy → NodeTy → Ruled Turns
+turns_ruled x s y =
+    bound_ruled x >>= (λ a. bound_ruled s >>= (λ b. bound_ruled y >>= (λ c. Fine (record { first = a; step = b; count = item_count a b c }))))
+
+-- there it is no row, and may have any number of items
+abbrev pub loop_ruled : NodeTy → NodeTy → NodeTy → Ruled Turns
+loop_ruled x s y =
+    tested code.BadArgument (Shows Itself) (may_bound x && may_bound s && may_bound y) x
+    >>= (λ t. tested code.FloatOperand (Shows Itself) (may_range x s y) t >>= (λ t. turns_ruled x s y))

@@ -20,7 +20,7 @@ ghost use Rattle.fi_values.specs.Bits.{two_typed, turned_bits, shifted, concaten
 ghost use Rattle.fi_values.specs.Brackets.{bracket};
 ghost use Rattle.fi_values.specs.Numbers.{is_bound};
 ghost use Rattle.fi_values.specs.Queries.{real_part, imaginary_part, complex_of, element_count, greater_extent, extent_of};
-ghost use Rattle.fi_values.specs.Ranges.{ranged};
+ghost use Rattle.fi_values.specs.Ranges.{ranged, items_of};
 ghost use Rattle.fi_values.specs.Sums.{Along, summed_value};
 ghost use Rattle.fi_values.specs.Transposes.{transposed};
 ghost use Rattle.fi_meaning.specs.Functions as functions;
@@ -40,7 +40,7 @@ ghost use Rattle.fi_meaning.specs.Statements.{item_value};
 ghost use Rattle.node_rules.specs.Pairs.{Span, IsIn, span_worked, items_worked, arithmetic_value};
 ghost use Rattle.node_rules.specs.Parted.{part_ruled, real_value, imaginary_value, conjugate_ruled, conjugate_value, complex_ruled, complex_value};
 ghost use Rattle.node_rules.specs.Queries.{numel_ruled, length_ruled, size_ruled};
-ghost use Rattle.node_rules.specs.Ranges.{range_ruled, range_value};
+ghost use Rattle.node_rules.specs.Ranges.{range_ruled, range_value, loop_ruled, items_at};
 ghost use Rattle.node_rules.specs.Built.{Calling, calling_shape, has_rule, function_worked, function_ruled, function_value};
 ghost use Rattle.node_rules.specs.Ruled.{Fine, fine, given};
 ghost use Rattle.node_rules.specs.Sides.{Meeting, meeting_shape};
@@ -106,6 +106,11 @@ pub fn ranges_go_by_their_rule()
 pub fn brackets_go_by_their_rule()
     ensures values { (rows : List (List Val)) → bracket rows ≡ given (bracket_ruled (map (map ty_of) rows)) (λ t. bracket_value t rows) }
     ensures types { (rows : List (List Val)) (t : NodeTy) → bracket_ruled (map (map ty_of) rows) ≡ Fine t → ty_of (bracket_value t rows) ≡ t }
+{}
+
+/// The items of a range in the head of a loop are those that its rule says, likewise; there may be any number of them, and none.
+pub fn loops_go_by_their_rule()
+    ensures { (first step last : Val) → items_of first step last ≡ given (loop_ruled (ty_of first) (ty_of step) (ty_of last)) (λ l. items_at l.first l.step l.count) }
 {}
 
 /// A function on the bits of two operands gives what its rule says, whichever it is: a value exactly where the conditions of the rule hold, and

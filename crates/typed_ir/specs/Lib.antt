@@ -1,2 +1,4 @@
 pub mod Tree
+pub mod Parts
+pub mod Meaning
 pub mod View

@@ -1,0 +1,5 @@
+pub mod Passing
+pub mod Counted
+pub mod Within
+pub mod Blocks
+pub mod Sources

@@ -1,0 +1,12 @@
+pub mod States
+pub mod Counts
+pub mod Within
+pub mod Pending
+pub mod SameTypes
+pub mod Calls
+pub mod Setting
+pub mod Expressions
+pub mod Statements
+pub mod Functions
+pub mod Listed
+pub mod Agreement

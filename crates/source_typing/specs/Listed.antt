@@ -1,0 +1,60 @@
+-- The nodes of a typed tree in the order of the walk: a node behind its parts, a call behind the nodes of its callee.
+use Rattle.std.specs.Prelude.{List, [], ◌∷◌, ◌++◌}
+use Rattle.fic_base.specs.declared.place.Place.{Place}
+use Rattle.node_rules.specs.Types.{NodeTy}
+use Rattle.typed_ir.specs.Tree.{TExp, TNumber, TWords, TRead, TSelect, TBuiltin, TCall, TEnd, TUnary, TBinary, TPost, TRange, TRangeBy, TParen, TMatrix, TArgs, TNoArgs, TAll, TItem, TItems, TNone, TOne, TRows, TNoRows, TRowOn, TSta, TAssign, TStore, TMulti, TIfOnly, TIfElse, TForEach, TWhile, TBreak, TContinue, TArms, TNoArms, TArm, TBlock, TDone, TNext, TFun, Function}
+
+abbrev pub Node : Type 0
+Node = Place × NodeTy
+
+abbrev mutual
+  pub nodes_of : TExp → List Node
+  nodes_of (TNumber at t text imaginary) = (at, t) ∷ []
+  nodes_of (TWords at t text) = (at, t) ∷ []
+  nodes_of (TRead at t name) = (at, t) ∷ []
+  nodes_of (TSelect at t name site args) = nodes_of_args args ++ (at, t) ∷ []
+  nodes_of (TBuiltin at t name args) = nodes_of_items args ++ (at, t) ∷ []
+  nodes_of (TCall at t callee args outs) = nodes_of_items args ++ (nodes_of_function callee ++ (at, t) ∷ [])
+  nodes_of (TEnd at t) = (at, t) ∷ []
+  nodes_of (TUnary at t sign e) = nodes_of e ++ (at, t) ∷ []
+  nodes_of (TBinary at t o a b) = nodes_of a ++ (nodes_of b ++ (at, t) ∷ [])
+  nodes_of (TPost at t mark e) = nodes_of e ++ (at, t) ∷ []
+  nodes_of (TRange at t first last) = nodes_of first ++ (nodes_of last ++ (at, t) ∷ [])
+  nodes_of (TRangeBy at t first step last) = nodes_of first ++ (nodes_of step ++ (nodes_of last ++ (at, t) ∷ []))
+  nodes_of (TParen at t e) = nodes_of e ++ (at, t) ∷ []
+  nodes_of (TMatrix at t rows) = nodes_of_rows rows ++ (at, t) ∷ []
+
+  pub nodes_of_args : TArgs → List Node
+  nodes_of_args TNoArgs = []
+  nodes_of_args (TAll more) = nodes_of_args more
+  nodes_of_args (TItem e more) = nodes_of e ++ nodes_of_args more
+
+  pub nodes_of_items : TItems → List Node
+  nodes_of_items TNone = []
+  nodes_of_items (TOne e more) = nodes_of e ++ nodes_of_items more
+
+  pub nodes_of_rows : TRows → List Node
+  nodes_of_rows TNoRows = []
+  nodes_of_rows (TRowOn r more) = nodes_of_items r ++ nodes_of_rows more
+
+  pub nodes_of_statement : TSta → List Node
+  nodes_of_statement (TAssign to e) = nodes_of e
+  nodes_of_statement (TStore to site args e) = nodes_of e ++ nodes_of_args args
+  nodes_of_statement (TMulti targets e) = nodes_of e
+  nodes_of_statement (TIfOnly at arms) = nodes_of_arms arms
+  nodes_of_statement (TIfElse at arms other) = nodes_of_arms arms ++ nodes_of_block other
+  nodes_of_statement (TForEach at to bounds first step count body) = nodes_of_items bounds ++ nodes_of_block body
+  nodes_of_statement (TWhile at test body) = nodes_of test ++ nodes_of_block body
+  nodes_of_statement (TBreak at) = []
+  nodes_of_statement (TContinue at) = []
+
+  pub nodes_of_arms : TArms → List Node
+  nodes_of_arms TNoArms = []
+  nodes_of_arms (TArm test body more) = nodes_of test ++ (nodes_of_block body ++ nodes_of_arms more)
+
+  pub nodes_of_block : TBlock → List Node
+  nodes_of_block TDone = []
+  nodes_of_block (TNext s more) = nodes_of_statement s ++ nodes_of_block more
+
+  pub nodes_of_function : TFun → List Node
+  nodes_of_function (Function name at inputs outputs body) = nodes_of_block body
