@@ -38,10 +38,10 @@ abbrev pub outputs_met : ℕ → Ruled NamedCall → Ruled NamedCall
 outputs_met wanted r = if nat_lt 1 wanted then of_one_output wanted r else r
 
 -- names that aren't supported, divisions, built-in functions; another name is unknown
-abbrev pub name_met : List ℕ → List (Option ArgumentTy) → Ruled NamedCall
-name_met name args =
+abbrev pub name_met : List ℕ → List (Option ArgumentTy) → ℕ → Ruled NamedCall
+name_met name args wanted =
     if is_listed name unsupported then Missing code.Unsupported (Shows Itself)
-    else (if is_listed name divisions then Missing code.Division (Shows Itself) else call_met name args)
+    else (if is_listed name divisions then Missing code.Division (Shows Itself) else outputs_met wanted (call_met name args))
 
 abbrev pub call_pending : List ℕ → Given → ℕ → Ruled Pending
-call_pending name g wanted = outputs_met wanted (name_met name g.types) >>= (λ k. Fine (record { shape = call_shape k; rest = call_worked k }))
+call_pending name g wanted = name_met name g.types wanted >>= (λ k. Fine (record { shape = call_shape k; rest = call_worked k }))
