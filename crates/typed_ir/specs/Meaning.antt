@@ -7,7 +7,7 @@ use Rattle.fi_values.specs.Logicals.{truth, deciding}
 use Rattle.fi_meaning.specs.Environment.{Env, no_values, assigned, Flow, Went, Broke, Continued, env_of, then_do, behind_loop}
 use Rattle.fi_meaning.specs.Statements.{each_item, turns, item_value}
 use Rattle.node_rules.specs.Brackets.{bracket_value}
-use Rattle.node_rules.specs.Calls.{call_value}
+use Rattle.node_rules.specs.Calls.{built_in_value}
 use Rattle.node_rules.specs.Logicals.{skipped}
 use Rattle.node_rules.specs.Operators.{pair_value}
 use Rattle.node_rules.specs.Ranges.{items_at}
@@ -16,7 +16,6 @@ use Rattle.node_rules.specs.Stores.{store_value}
 use Rattle.node_rules.specs.Subscripts.{read_value}
 use Rattle.node_rules.specs.Transposes.{post_value}
 use Rattle.node_rules.specs.Types.{NodeTy, known}
-use Rattle.typed_ir.specs.Parts.{arguments_of}
 use Rattle.typed_ir.specs.Tree.{Slot, TExp, TNumber, TWords, TRead, TSelect, TBuiltin, TCall, TEnd, TUnary, TBinary, TPost, TRange, TRangeBy, TParen, TMatrix, TArgs, TNoArgs, TAll, TItem, TItems, TNone, TOne, TRows, TNoRows, TRowOn, TSta, TAssign, TStore, TMulti, TIfOnly, TIfElse, TForEach, TWhile, TBreak, TContinue, TArms, TNoArms, TArm, TBlock, TDone, TNext, TFun, Function}
 
 -- ---- names and lists of them
@@ -56,7 +55,7 @@ abbrev mutual
   value (TWords at t text) n env = Gives (known t)
   value (TRead at t name) n env = Gives (held env name t)
   value (TSelect at t name site args) n env = subscript_values args n env >>= (λ ks. read_value site t (held env name t) ks)
-  value (TBuiltin at t name args) n env = item_values args n env >>= (λ vs. Gives (call_value name t (arguments_of args vs)))
+  value (TBuiltin at t name args) n env = item_values args n env >>= (λ vs. Gives (built_in_value name t vs))
   value (TCall at t callee args outs) n env =
       item_values args n env >>= (λ vs. function_values callee n vs >>= (λ ws. Gives (first_of t ws)))
   value (TEnd at t) n env = Gives (known t)

@@ -1,9 +1,7 @@
 -- Parts of typed trees.
-use Rattle.std.specs.Prelude.{Bool, false, ◌||◌, bytes_eq, List, [], ◌∷◌, codes}
-use Rattle.fi_rules.specs.Value.{Val}
-use Rattle.fi_meaning.specs.Calls.{Argument}
+use Rattle.std.specs.Prelude.{List, []}
 use Rattle.node_rules.specs.Types.{NodeTy}
-use Rattle.typed_ir.specs.Tree.{Slot, TExp, TNumber, TWords, TRead, TSelect, TBuiltin, TCall, TEnd, TUnary, TBinary, TPost, TRange, TRangeBy, TParen, TMatrix, TItems, TNone, TOne, TFun, Function}
+use Rattle.typed_ir.specs.Tree.{Slot, TExp, TNumber, TWords, TRead, TSelect, TBuiltin, TCall, TEnd, TUnary, TBinary, TPost, TRange, TRangeBy, TParen, TMatrix, TFun, Function}
 
 -- the type of a node
 abbrev pub type_of : TExp → NodeTy
@@ -29,13 +27,3 @@ outputs_of (Function name at inputs outputs body) = outputs
 unfoldable pub outputs_called : TExp → List Slot
 outputs_called (TCall at t callee args outs) = outputs_of callee
 outputs_called e = []
-
--- the word true or false
-unfoldable pub is_word : TExp → Bool
-is_word (TBuiltin at t name TNone) = bytes_eq name (codes "true") || bytes_eq name (codes "false")
-is_word e = false
-
--- typed arguments with their values
-abbrev pub arguments_of : TItems → List Val → List Argument
-arguments_of (TOne e more) (v ∷ vs) = record { value = v; is_word = is_word e } ∷ arguments_of more vs
-arguments_of items vs = []
