@@ -74,7 +74,7 @@ slots_fit f (s ∷ ss) h =
     count_of (Fixed t complex) n = refl
     count_of Logical n = refl
 
-lists_fit : (rs : List Range) (bs : List Array) (lists : List (List ℤ)) → AllFit rs bs → case.AreInputs rs lists → run.AreInputs bs lists
+lists_fit : (rs : List Range) (bs : List Array) (lists : List (List ℤ)) → AllFit rs bs → case.AreInputs rs lists → run.FitArrays bs lists
 lists_fit [] [] [] h g = record { lengths = refl; fit = λ k a xs e. absurd (omega (arith, slice_get_within [] k a e)) }
 lists_fit [] [] (xs ∷ lists) h g = absurd g
 lists_fit [] (b ∷ bs) lists h g = absurd h
@@ -84,12 +84,12 @@ lists_fit (r ∷ rs) (b ∷ bs) (xs ∷ lists) h g =
     let rest = lists_fit rs bs lists h.1 g.2 in
     record { lengths = λ i. (g.0 ∙ h.0.count) i ∷ rest.lengths i; fit = at rest }
   where
-    at : run.AreInputs bs lists → (k : ℕ) (a : Array) (ys : List ℤ) → slice_get (b ∷ bs) k ≡ Some a → slice_get (xs ∷ lists) k ≡ Some ys → AreFit a.container ys
+    at : run.FitArrays bs lists → (k : ℕ) (a : Array) (ys : List ℤ) → slice_get (b ∷ bs) k ≡ Some a → slice_get (xs ∷ lists) k ≡ Some ys → AreFit a.container ys
     at rest zero a ys e f =
         let same : b ≡ a = cc in
         let list : xs ≡ ys = cc in
         subst (λ c. AreFit c.container ys) same (subst (AreFit b.container) list (All-weaker (case.IsWithin r) (IsFit b.container) h.0.fit xs g.1))
     at rest (suc k) a ys e f = rest.fit k a ys e f
 
-pub inputs_fit : (p : Program) (lists : List (List ℤ)) → IsInterface p.interface → case.AreInputs (input_ranges p.interface) lists → run.AreInputs (arrays_of p).inputs lists
+pub inputs_fit : (p : Program) (lists : List (List ℤ)) → IsInterface p.interface → case.AreInputs (input_ranges p.interface) lists → run.FitArrays (arrays_of p).inputs lists
 inputs_fit p lists h g = lists_fit (input_ranges p.interface) (input_arrays p.interface) lists (slots_fit input_fronts p.interface.inputs h.inputs) g

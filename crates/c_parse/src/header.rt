@@ -1,6 +1,6 @@
 //! The words of a function up to its opening brace.
 
-ghost use Rattle.std.specs.Prelude.{◌≡◌, ◌+◌, ◌∷◌, ◌++◌, [], IfOk, OnOk};
+ghost use Rattle.std.specs.Prelude.{◌≡◌, ◌+◌, ◌^◌, ◌<◌, ◌↔◌, ◌∷◌, ◌++◌, [], IsOk, IfOk, OnOk};
 ghost use Rattle.c_grammar.specs.Sentence.{array_words, input_words, output_words, parameter_words};
 ghost use Rattle.c_grammar.specs.declared.word.CSign.TheVariants as sign;
 ghost use Rattle.c_grammar.specs.declared.word.CWordToken.TheVariants as word;
@@ -12,11 +12,12 @@ use num_type::{Container, Memory};
 use sqlite_items::Items;
 use std::alloc::Global;
 
-/// The number behind so many others. Want of memory where it is no u32, which no list in memory comes to.
+/// The number behind so many others. Want of memory exactly where it is no u32, which no list in memory comes to.
 fn number(first: u32, k: usize) -> Result<u32, Memory>
-    ensures { IfOk result (λ n. n ≡ first + k) }
+    ensures value { IfOk result (λ n. n ≡ first + k) }
+    ensures exact { IsOk result ↔ (first + k < 2 ^ 32) }
 {
-    if k < (4_294_967_295 - first) as usize {
+    if k <= (u32::MAX - first) as usize {
         Ok(first + k as u32)
     } else {
         Err(Memory)

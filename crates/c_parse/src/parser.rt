@@ -172,16 +172,7 @@ fn no_statements(alloc: Global, interface: Interface) -> CTree
     ensures interface { result.interface ≡ interface }
     ensures arrays { result.arrays ≡ [] }
 {
-    CTree {
-        interface,
-        arrays: Items::new(alloc),
-        words: Items::new(alloc),
-        groups: 0,
-        barriers: 0,
-        sources: 0,
-        turns: 0,
-        body: Items::new(alloc),
-    }
+    CTree::plain(alloc, interface, Items::new(alloc), Items::new(alloc))
 }
 
 /// The interface of a tree.
@@ -206,16 +197,7 @@ fn program(alloc: Global, interface: Interface, past: Past) -> CProgram
     ensures { program_of result ≡ made (interface_view interface) (past_view past) }
 {
     let Past { words, done } = past;
-    CProgram::of(CTree {
-        interface,
-        arrays: Items::new(alloc),
-        words,
-        groups: 0,
-        barriers: 0,
-        sources: 0,
-        turns: 0,
-        body: done,
-    })
+    CProgram::of(CTree::plain(alloc, interface, words, done))
 }
 
 /// The program of this interface whose words these are.

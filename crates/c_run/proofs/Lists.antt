@@ -7,7 +7,7 @@ use Rattle.c_tree.specs.Names.{arrays_of}
 use Rattle.c_tree.specs.Tree.{Program}
 use Rattle.c_tree.specs.Meaning.{Word, Counts, Cells, State}
 use Rattle.c_tree.specs.Run.{filled, zeros, zero_word, start}
-use Rattle.c_run.specs.Fit.{AreFit, AreInputs}
+use Rattle.c_run.specs.Fit.{AreFit, FitArrays}
 use Rattle.c_run.specs.Shape.{Extent, Shape, cells_extent, array_extent, shape_of, program_shape}
 use Rattle.c_run.specs.Start.{zero_lists, cleared, refilled, AreFilling, restarted, blank}
 
@@ -79,7 +79,7 @@ start_is p st lists h =
     (cleared_is st.locals (arrays_of p).locals (ap (λ s. s.locals) h))
 
 -- inputs fill a program's input arrays
-filling : (cs : List Cells) (arrays : List Array) (lists : List (List ℤ)) → map cells_extent cs ≡ map array_extent arrays → AreInputs arrays lists → AreFilling cs lists
+filling : (cs : List Cells) (arrays : List Array) (lists : List (List ℤ)) → map cells_extent cs ≡ map array_extent arrays → FitArrays arrays lists → AreFilling cs lists
 filling [] [] [] e h = tt
 filling [] [] (xs ∷ lists) e h = let l = h.lengths in absurd cc
 filling [] (a ∷ more) lists e h = absurd cc
@@ -91,7 +91,7 @@ filling (c ∷ cs) (a ∷ more) (xs ∷ lists) e h =
       filling cs more lists (tail_is e) (record { lengths = tail_is h.lengths; fit = λ k b ys p q. h.fit (suc k) b ys p q }),
     )
 
-pub inputs_fill : (p : Program) (st : State) (lists : List (List ℤ)) → shape_of st ≡ program_shape p → AreInputs (arrays_of p).inputs lists → AreFilling st.inputs lists
+pub inputs_fill : (p : Program) (st : State) (lists : List (List ℤ)) → shape_of st ≡ program_shape p → FitArrays (arrays_of p).inputs lists → AreFilling st.inputs lists
 unfolding shape_of program_shape
 inputs_fill p st lists h k = filling st.inputs (arrays_of p).inputs lists (ap (λ s. s.inputs) h) k
 

@@ -6,7 +6,7 @@ use Rattle.c_tree.specs.declared.tree.Counter.{Counter}
 use Rattle.c_tree.specs.declared.tree.CStmt.{CStmt}
 use Rattle.c_tree.specs.View.{stmt_view, block_view}
 use Rattle.c_tree.specs.Tokens.{sta_tokens}
-use Rattle.c_tree.specs.Outcome.{Outcome, Gives, PastBound, UndefinedAt, bind, choose}
+use Rattle.c_tree.specs.Outcome.{Outcome, Completes, PastBound, UndefinedAt, bind, choose}
 use Rattle.c_tree.specs.Meaning as meaning
 use Rattle.c_tree.specs.Meaning.{State, with_count, then_run, after_turn, for_turns, while_turns, run_sta, run_block}
 use Rattle.c_run.specs.declared.flow.Flow.{Flow}
@@ -35,21 +35,21 @@ for_turn left rest i next c body st st1 st' flow o el en es told on =
 
 pub while_fails : (left : ℕ) (test : State → Outcome Bool) (body : State → Outcome meaning.Flow) (st : State) (token : ℕ) → UndefinedAt token ≡ test st → UndefinedAt token ≡ while_turns left test body st
 unfolding bind
-while_fails zero test body st token e = ap (λ r. bind r (λ t. choose t PastBound (Gives (meaning.Went st)))) e
-while_fails (suc n) test body st token e = ap (λ r. bind r (λ t. choose t (bind (body st) (λ f. after_turn f (while_turns n test body))) (Gives (meaning.Went st)))) e
+while_fails zero test body st token e = ap (λ r. bind r (λ t. choose t PastBound (Completes (meaning.Went st)))) e
+while_fails (suc n) test body st token e = ap (λ r. bind r (λ t. choose t (bind (body st) (λ f. after_turn f (while_turns n test body))) (Completes (meaning.Went st)))) e
 
-pub while_ends : (left : ℕ) (test : State → Outcome Bool) (body : State → Outcome meaning.Flow) (st : State) → Gives false ≡ test st → Gives (meaning.Went st) ≡ while_turns left test body st
+pub while_ends : (left : ℕ) (test : State → Outcome Bool) (body : State → Outcome meaning.Flow) (st : State) → Completes false ≡ test st → Completes (meaning.Went st) ≡ while_turns left test body st
 unfolding bind choose
-while_ends zero test body st e = ap (λ r. bind r (λ t. choose t PastBound (Gives (meaning.Went st)))) e
-while_ends (suc n) test body st e = ap (λ r. bind r (λ t. choose t (bind (body st) (λ f. after_turn f (while_turns n test body))) (Gives (meaning.Went st)))) e
+while_ends zero test body st e = ap (λ r. bind r (λ t. choose t PastBound (Completes (meaning.Went st)))) e
+while_ends (suc n) test body st e = ap (λ r. bind r (λ t. choose t (bind (body st) (λ f. after_turn f (while_turns n test body))) (Completes (meaning.Went st)))) e
 
 pub while_turn : (left rest : ℕ) (test : State → Outcome Bool) (body : State → Outcome meaning.Flow) (st st' : State) (flow : Flow) (o : Option Flow)
-    → left ≡ suc rest → Gives true ≡ test st → flow_told flow st' ≡ body st
+    → left ≡ suc rest → Completes true ≡ test st → flow_told flow st' ≡ body st
     → ((go : State → Outcome meaning.Flow) → left_or o go st' ≡ bind (flow_told flow st') (λ f. after_turn f go))
     → while_turns left test body st ≡ left_or o (while_turns rest test body) st'
 unfolding bind choose
 while_turn left rest test body st st' flow o el goes told on =
     ap (λ n. while_turns n test body st) el
-    ∙ ap (λ r. bind r (λ t. choose t (bind (body st) (λ f. after_turn f (while_turns rest test body))) (Gives (meaning.Went st)))) (sym goes)
+    ∙ ap (λ r. bind r (λ t. choose t (bind (body st) (λ f. after_turn f (while_turns rest test body))) (Completes (meaning.Went st)))) (sym goes)
     ∙ ap (λ r. bind r (λ f. after_turn f (while_turns rest test body))) (sym told)
     ∙ sym (on (while_turns rest test body))

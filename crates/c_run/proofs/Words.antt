@@ -7,7 +7,7 @@ use Rattle.std.proofs.lemmas.Int.{ints, int_rem_euclid_is}
 use Rattle.num_type.specs.declared.container.Container.{Container}
 use Rattle.num_type.specs.declared.container.Container.TheVariants.{I8, I16, I32, I64, U8, U16, U32, U64}
 use Rattle.num_type.specs.Containers.{bits_of}
-use Rattle.c_tree.specs.Outcome.{Gives, UndefinedAt, choose, when◌then◌else◌}
+use Rattle.c_tree.specs.Outcome.{Completes, UndefinedAt, choose, when◌then◌else◌}
 use Rattle.c_tree.specs.Meaning.{Int64, signed_at, fits_signed, wrapped}
 use Rattle.c_run.specs.Signed.{given}
 
@@ -19,16 +19,16 @@ fits_not : (z : ℤ) → ¬ FitsSigned w64 z → fits_signed 64 z ≡ false
 fits_not (pos n) h = grind (arith, common_steps, ints)
 fits_not (negsuc n) h = grind (arith, common_steps, ints)
 
-pub signed_fits : (token : ℕ) (z : ℤ) → FitsSigned w64 z → signed_at token z ≡ Gives (Int64 z)
+pub signed_fits : (token : ℕ) (z : ℤ) → FitsSigned w64 z → signed_at token z ≡ Completes (Int64 z)
 unfolding signed_at choose
-signed_fits token z h = ap (λ b. when b then Gives (Int64 z) else UndefinedAt token) (fits z h)
+signed_fits token z h = ap (λ b. when b then Completes (Int64 z) else UndefinedAt token) (fits z h)
 
 pub signed_fits_not : (token : ℕ) (z : ℤ) → ¬ FitsSigned w64 z → signed_at token z ≡ UndefinedAt token
 unfolding signed_at choose
-signed_fits_not token z h = ap (λ b. when b then Gives (Int64 z) else UndefinedAt token) (fits_not z h)
+signed_fits_not token z h = ap (λ b. when b then Completes (Int64 z) else UndefinedAt token) (fits_not z h)
 
 pub given_is : (token : ℕ) (z : ℤ) (o : Option ℤ) → SomeIff o (FitsSigned w64 z) z → given token o ≡ signed_at token z
-given_is token z (Some y) h = ap (λ v. Gives (Int64 v)) h.1 ∙ sym (signed_fits token z h.0)
+given_is token z (Some y) h = ap (λ v. Completes (Int64 v)) h.1 ∙ sym (signed_fits token z h.0)
 given_is token z None h = sym (signed_fits_not token z h)
 
 -- the remainder of a number that 2 ^ 64 was added to

@@ -22,6 +22,6 @@ abbrev pub AreFit : Container → List ℤ → Type 0
 AreFit c = All (IsFit c)
 
 -- one list for each input array, in order, with its length and in the range of its container
-pub record AreInputs (arrays : List Array) (lists : List (List ℤ)) : Type 0 where
+pub record FitArrays (arrays : List Array) (lists : List (List ℤ)) : Type 0 where
   pub lengths : map length lists ≡ map (λ a. a.extent) arrays
   pub fit : (k : ℕ) (a : Array) (xs : List ℤ) → slice_get arrays k ≡ Some a → slice_get lists k ≡ Some xs → AreFit a.container xs

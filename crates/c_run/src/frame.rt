@@ -4,7 +4,7 @@ ghost use Rattle.std.specs.Prelude.{◌≡◌, ◌<◌, slice_get, slice_set, So
 ghost use Rattle.std.specs.Option.{option_copied};
 ghost use Rattle.c_tree.specs.Names.{arrays_of};
 ghost use Rattle.c_tree.specs.View.{program_view};
-ghost use Rattle.c_tree.specs.Outcome.{bind, found_at, Gives};
+ghost use Rattle.c_tree.specs.Outcome.{bind, found_at, Completes};
 ghost use Rattle.c_tree.specs.Meaning.{Cells, counts_of, count_in, cells_in, writable_in, with_word, with_count, with_cells, assigned, stored, Went};
 ghost use Rattle.c_run.specs.View.{word_view, word_told, told, flow_told};
 ghost use Rattle.c_run.specs.Shape.{shape_of};
@@ -178,7 +178,7 @@ impl Frame {
     /// A variable takes a word of its type. Undefined at the token where there is no such variable, or where the word has another type.
     #[tactic(auto, using(crate::proofs::Frames::word_shaped), unfolding(c_tree::specs::Outcome::bind, c_tree::specs::Meaning::assigned))]
     pub fn assign(&mut self, token: u64, number: u32, word: Word) -> Flow
-        ensures told { flow_told result self.new ≡ bind (found_at token (slice_get self.old.words number)) (λ old. bind (assigned token old (word_view word)) (λ new. Gives (Went (with_word self.old number new)))) }
+        ensures told { flow_told result self.new ≡ bind (found_at token (slice_get self.old.words number)) (λ old. bind (assigned token old (word_view word)) (λ new. Completes (Went (with_word self.old number new)))) }
         ensures shaped { shape_of self.new ≡ shape_of self.old }
     {
         match self.word(token, number) {

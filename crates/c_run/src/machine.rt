@@ -35,7 +35,7 @@ impl<'a> Machine<'a> {
     ghost use Rattle.c_tree.specs.Whole.{program_of};
     ghost use Rattle.c_tree.specs.Names.{arrays_of};
     ghost use Rattle.c_tree.specs.Run;
-    ghost use Rattle.c_run.specs.Fit.{AreInputs};
+    ghost use Rattle.c_run.specs.Fit.{FitArrays};
     ghost use Rattle.c_run.specs.Start.{zero_lists};
     ghost use Rattle.c_run.specs.Ran.{IsRan};
     ghost use Rattle.c_run.specs.Within.{program_in, outputs_in};
@@ -70,7 +70,7 @@ impl<'a> Machine<'a> {
     /// memory. The output arrays then hold what a run with a status left there.
     #[tactic(auto, using(crate::proofs::Limits::none_over))]
     pub fn run(&mut self, inputs: &[Vec<Int>], turns: u64) -> Ran
-        requires { AreInputs (arrays_of (program_in self.old)).inputs (map vec_items inputs.now) }
+        requires { FitArrays (arrays_of (program_in self.old)).inputs (map vec_items inputs.now) }
         ensures program { program_in self.new ≡ program_in self.old }
         ensures count { length (outputs_in self.new) ≡ length (arrays_of (program_in self.old)).outputs }
         ensures ran { IsRan (Run.run (program_in self.old) (map vec_items inputs.now) (zero_lists (arrays_of (program_in self.old)).outputs) turns) result (outputs_in self.new) }

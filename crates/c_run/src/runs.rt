@@ -8,7 +8,7 @@ ghost use Rattle.c_tree.specs.Run;
 ghost use Rattle.c_run.specs.View.{word_view};
 ghost use Rattle.c_run.specs.Shape.{shape_of, program_shape};
 ghost use Rattle.c_run.specs.Over.{block_over};
-ghost use Rattle.c_run.specs.Fit.{AreInputs};
+ghost use Rattle.c_run.specs.Fit.{FitArrays};
 ghost use Rattle.c_run.specs.Start.{zero_lists};
 ghost use Rattle.c_run.specs.Ran.{IsRan};
 
@@ -35,7 +35,7 @@ pub fn run_tree(
     requires first_is { first ≡ body_token (program_view tree.now) }
     requires counted { closing_token (program_view tree.now) < 2 ^ 64 }
     requires within { block_over (program_view tree.now).body ≡ 0 }
-    requires inputs { AreInputs (arrays_of (program_view tree.now)).inputs (map vec_items inputs.now) }
+    requires inputs { FitArrays (arrays_of (program_view tree.now)).inputs (map vec_items inputs.now) }
     ensures ran { IsRan (Run.run (program_view tree.now) (map vec_items inputs.now) (zero_lists (arrays_of (program_view tree.now)).outputs) turns) result (map (λ cells. cells.items) frame.new.outputs) }
     ensures shaped { shape_of frame.new ≡ shape_of frame.old }
 {

@@ -5,7 +5,7 @@ ghost use Rattle.c_tree.specs.View.{expr_view, test_view, stmt_view, block_view}
 ghost use Rattle.c_tree.specs.Tree.{Set, Store};
 ghost use Rattle.c_tree.specs.Tokens.{tokens, test_tokens, sta_tokens, block_tokens};
 ghost use Rattle.c_tree.specs.Meaning;
-ghost use Rattle.c_tree.specs.Outcome.{Gives, PastBound, bind, choose};
+ghost use Rattle.c_tree.specs.Outcome.{Completes, PastBound, bind, choose};
 ghost use Rattle.c_tree.specs.Meaning.{Went, holds, run_sta, run_block};
 ghost use Rattle.c_run.specs.Over.{over, test_over, sta_over, block_over};
 ghost use Rattle.c_run.specs.View.{flow_told};
@@ -203,7 +203,7 @@ fn while_turns(body: &[CStmt], test: &CTest, frame: &mut Frame, bound: u64, at: 
 fn last_test(test: &CTest, frame: &Frame, at: u64) -> Flow
     requires counted { at + test_tokens (test_view test.now) < 2 ^ 64 }
     requires within { test_over (test_view test.now) ≡ 0 }
-    ensures { flow_told result frame.now ≡ bind (holds (test_view test.now) frame.now at) (λ t. choose t PastBound (Gives (Went frame.now))) }
+    ensures { flow_told result frame.now ≡ bind (holds (test_view test.now) frame.now at) (λ t. choose t PastBound (Completes (Went frame.now))) }
 {
     match holds(test, frame, at) {
         Err(token) => Flow::Undefined(token),

@@ -11,13 +11,13 @@ use Rattle.c_tree.specs.declared.tree.CWord.{CWord}
 use Rattle.c_tree.specs.declared.tree.CWord.TheVariants.{I64, U64}
 use Rattle.c_tree.specs.Tree.{Exp, Signed, Unsigned, Var, Count, Element, Cast, Truth, Neg, Binary, Choose, Test, Compare, Sta, Set, Store, If, IfElse, For, While, Break, Continue, Return, Block, Done, Next, Program}
 use Rattle.c_tree.specs.Tokens.{tokens, test_tokens, sta_tokens, block_tokens, body_token, closing_token, program_tokens}
-use Rattle.c_tree.specs.Outcome.{Outcome, Gives, PastBound, UndefinedAt, bind, ◌>>=◌, choose, when◌then◌else◌, found_at}
+use Rattle.c_tree.specs.Outcome.{Outcome, Completes, PastBound, UndefinedAt, bind, ◌>>=◌, choose, when◌then◌else◌, found_at}
 use Rattle.c_tree.specs.Meaning.{Word, Int64, Uint64, Cells, State, Flow, Went, Broke, Continued, Returned, signed_at, shifted_left, shifted_right, operated, negated, converted, compared, element, assigned, kept, stored, then_run, after_turn, for_turns, while_turns, value, holds, run_sta, run_block}
 use Rattle.c_tree.specs.Run.{Undefined, result_of, start, run}
 
 -- undefined only at a token from low on and below high
 data Within {A : Type 0} (low high : ℕ) : Outcome A → Type 0 where
-  gives : {x : A} → Within low high (Gives x)
+  gives : {x : A} → Within low high (Completes x)
   past : Within low high PastBound
   undefined : {token : ℕ} → low ≤ token → token < high → Within low high (UndefinedAt token)
 
@@ -203,10 +203,10 @@ token_is : {m n : ℕ} → Undefined m ≡ Undefined n → m ≡ n
 token_is e = cc
 
 result_within : (low closing : ℕ) (r : Outcome Flow) (k : ℕ) → low ≤ closing → Within low closing r → result_of closing r ≡ Undefined k → (low ≤ k) × (k ≤ closing)
-result_within low closing (Gives (Returned status st)) k le h e = absurd cc
-result_within low closing (Gives (Went st)) k le h e = (omega (arith, token_is e), omega (arith, token_is e))
-result_within low closing (Gives (Broke st)) k le h e = (omega (arith, token_is e), omega (arith, token_is e))
-result_within low closing (Gives (Continued st)) k le h e = (omega (arith, token_is e), omega (arith, token_is e))
+result_within low closing (Completes (Returned status st)) k le h e = absurd cc
+result_within low closing (Completes (Went st)) k le h e = (omega (arith, token_is e), omega (arith, token_is e))
+result_within low closing (Completes (Broke st)) k le h e = (omega (arith, token_is e), omega (arith, token_is e))
+result_within low closing (Completes (Continued st)) k le h e = (omega (arith, token_is e), omega (arith, token_is e))
 result_within low closing PastBound k le h e = absurd cc
 result_within low closing (UndefinedAt token) k le (undefined l h) e = (omega (arith, token_is e), omega (arith, token_is e))
 

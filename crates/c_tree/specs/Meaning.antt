@@ -17,7 +17,7 @@ use Rattle.c_tree.specs.declared.tree.COp.{COp}
 use Rattle.c_tree.specs.declared.tree.COp.TheVariants as op
 use Rattle.c_tree.specs.Tree.{Exp, Signed, Unsigned, Var, Count, Element, Cast, Truth, Neg, Binary, Choose, Test, Compare, Sta, Set, Store, If, IfElse, For, While, Break, Continue, Return, Block, Done, Next}
 use Rattle.c_tree.specs.Tokens.{tokens, test_tokens, sta_tokens, block_tokens}
-use Rattle.c_tree.specs.Outcome.{Outcome, Gives, PastBound, UndefinedAt, ◌>>=◌, when◌then◌else◌, found_at}
+use Rattle.c_tree.specs.Outcome.{Outcome, Completes, PastBound, UndefinedAt, ◌>>=◌, when◌then◌else◌, found_at}
 
 -- ---- words and states
 
@@ -89,11 +89,11 @@ fits_signed bits z = int_le (neg_ℤ (pos (2 ^ (bits - 1)))) z && int_lt z (pos 
 -- an int64_t. Out of its range an operation is undefined (6.5); a conversion is left to the implementation (6.3.1.3), and counts as
 -- undefined here
 unfoldable pub signed_at : ℕ → ℤ → Outcome Word
-signed_at token z = when fits_signed 64 z then Gives (Int64 z) else UndefinedAt token
+signed_at token z = when fits_signed 64 z then Completes (Int64 z) else UndefinedAt token
 
 -- a uint64_t, which wraps (6.2.5)
 abbrev pub unsigned : ℤ → Outcome Word
-unsigned z = Gives (Uint64 (wrapped 64 z))
+unsigned z = Completes (Uint64 (wrapped 64 z))
 
 -- a shift to the left (6.5.7)
 unfoldable pub shifted_left : ℕ → Word → ℕ → Outcome Word
@@ -103,8 +103,8 @@ shifted_left token (Int64 (negsuc n)) k = UndefinedAt token
 
 -- a shift to the right (6.5.7); of a negative number it is left to the implementation, and counts as undefined here
 unfoldable pub shifted_right : ℕ → Word → ℕ → Outcome Word
-shifted_right token (Uint64 n) k = when nat_lt k 64 then Gives (Uint64 (n / 2 ^ k)) else UndefinedAt token
-shifted_right token (Int64 (pos n)) k = when nat_lt k 64 then Gives (Int64 (pos (n / 2 ^ k))) else UndefinedAt token
+shifted_right token (Uint64 n) k = when nat_lt k 64 then Completes (Uint64 (n / 2 ^ k)) else UndefinedAt token
+shifted_right token (Int64 (pos n)) k = when nat_lt k 64 then Completes (Int64 (pos (n / 2 ^ k))) else UndefinedAt token
 shifted_right token (Int64 (negsuc n)) k = UndefinedAt token
 
 -- a binary operator, at its token (6.5.5 to 6.5.7, 6.5.10 to 6.5.12); words of other types are undefined
@@ -115,9 +115,9 @@ operated token op.Mul (Int64 x) (Int64 y) = signed_at token (x *ℤ y)
 operated token op.Add (Uint64 m) (Uint64 n) = unsigned (pos (m + n))
 operated token op.Sub (Uint64 m) (Uint64 n) = unsigned (pos m -ℤ pos n)
 operated token op.Mul (Uint64 m) (Uint64 n) = unsigned (pos (m * n))
-operated token op.And (Uint64 m) (Uint64 n) = Gives (Uint64 (bit_and m n))
-operated token op.Or (Uint64 m) (Uint64 n) = Gives (Uint64 (bit_or m n))
-operated token op.Xor (Uint64 m) (Uint64 n) = Gives (Uint64 (bit_xor m n))
+operated token op.And (Uint64 m) (Uint64 n) = Completes (Uint64 (bit_and m n))
+operated token op.Or (Uint64 m) (Uint64 n) = Completes (Uint64 (bit_or m n))
+operated token op.Xor (Uint64 m) (Uint64 n) = Completes (Uint64 (bit_xor m n))
 operated token op.Shl w (Uint64 k) = shifted_left token w k
 operated token op.Shr w (Uint64 k) = shifted_right token w k
 operated token _ _ _ = UndefinedAt token
@@ -144,8 +144,8 @@ related rel.Ge x y = int_le y x
 
 -- a relation between words of one type, at its token (6.5.8, 6.5.9)
 unfoldable pub compared : ℕ → CRel → Word → Word → Outcome Bool
-compared token r (Int64 x) (Int64 y) = Gives (related r x y)
-compared token r (Uint64 m) (Uint64 n) = Gives (related r (pos m) (pos n))
+compared token r (Int64 x) (Int64 y) = Completes (related r x y)
+compared token r (Uint64 m) (Uint64 n) = Completes (related r (pos m) (pos n))
 compared token _ _ _ = UndefinedAt token
 
 -- an element as a word of its signedness
@@ -154,7 +154,7 @@ loaded c z = if is_signed_container c then Int64 z else Uint64 (unsigned_abs z)
 
 -- an element at a subscript, at the opening bracket (6.5.2.1, 6.5.6)
 unfoldable pub element : ℕ → Cells → Word → Outcome Word
-element token cells (Int64 (pos k)) = found_at token (slice_get cells.items k) >>= (λ z. Gives (loaded cells.container z))
+element token cells (Int64 (pos k)) = found_at token (slice_get cells.items k) >>= (λ z. Completes (loaded cells.container z))
 element token cells _ = UndefinedAt token
 
 -- a truth value as a number
@@ -166,14 +166,14 @@ number_of false = pos 0
 
 abbrev mutual
   pub value : Exp → State → ℕ → Outcome Word
-  value (Signed n) st at = Gives (Int64 (pos n))
-  value (Unsigned n) st at = Gives (Uint64 n)
+  value (Signed n) st at = Completes (Int64 (pos n))
+  value (Unsigned n) st at = Completes (Uint64 n)
   value (Var k) st at = found_at at (slice_get st.words k)
-  value (Count c) st at = found_at at (count_in st c) >>= (λ n. Gives (Int64 (pos n)))
+  value (Count c) st at = found_at at (count_in st c) >>= (λ n. Completes (Int64 (pos n)))
   value (Element array sub) st at =
       found_at (at + 3) (cells_in st array) >>= (λ cells. value sub st (at + 5) >>= (λ k. element (at + 4) cells k))
   value (Cast to e) st at = value e st (at + 3) >>= (λ w. converted at to w)
-  value (Truth t) st at = holds t st (at + 4) >>= (λ b. Gives (Int64 (number_of b)))
+  value (Truth t) st at = holds t st (at + 4) >>= (λ b. Completes (Int64 (number_of b)))
   value (Neg e) st at = value e st (at + 2) >>= (λ w. negated (at + 1) w)
   value (Binary o a b) st at =
       value a st (at + 1) >>= (λ x. value b st (at + 2 + tokens a) >>= (λ y. operated (at + 1 + tokens a) o x y))
@@ -197,8 +197,8 @@ pub data Flow : Type 0 where
 
 -- a variable keeps its type
 unfoldable pub assigned : ℕ → Word → Word → Outcome Word
-assigned token (Int64 old) (Int64 z) = Gives (Int64 z)
-assigned token (Uint64 old) (Uint64 n) = Gives (Uint64 n)
+assigned token (Int64 old) (Int64 z) = Completes (Int64 z)
+assigned token (Uint64 old) (Uint64 n) = Completes (Uint64 n)
 assigned token _ _ = UndefinedAt token
 
 -- with another value of a variable
@@ -223,52 +223,52 @@ whole_of (Uint64 n) = pos n
 -- the cast of a store, at its opening parenthesis (6.3.1.3): out of a signed type's range it counts as undefined
 unfoldable pub kept : ℕ → Container → ℤ → Outcome ℤ
 kept token c z =
-    when is_signed_container c then (when fits_signed (bits_of c) z then Gives z else UndefinedAt token)
-    else Gives (pos (wrapped (bits_of c) z))
+    when is_signed_container c then (when fits_signed (bits_of c) z then Completes z else UndefinedAt token)
+    else Completes (pos (wrapped (bits_of c) z))
 
 -- the write of an element at a subscript, at the opening bracket (6.5.2.1, 6.5.6)
 unfoldable pub stored : ℕ → State → CArray → Cells → ℤ → Word → Outcome Flow
 stored token st array cells z (Int64 (pos k)) =
     when nat_lt k (length cells.items)
-    then Gives (Went (with_cells st array (record cells { items = slice_set cells.items k z }))) else UndefinedAt token
+    then Completes (Went (with_cells st array (record cells { items = slice_set cells.items k z }))) else UndefinedAt token
 stored token st array cells z _ = UndefinedAt token
 
 -- what comes behind a statement runs only where it went on
 abbrev pub then_run : Flow → (State → Outcome Flow) → Outcome Flow
 then_run (Went st) next = next st
-then_run flow next = Gives flow
+then_run flow next = Completes flow
 
 -- what comes behind a turn of a loop
 abbrev pub after_turn : Flow → (State → Outcome Flow) → Outcome Flow
 after_turn (Went st) next = next st
 after_turn (Continued st) next = next st
-after_turn (Broke st) next = Gives (Went st)
-after_turn (Returned status st) next = Gives (Returned status st)
+after_turn (Broke st) next = Completes (Went st)
+after_turn (Returned status st) next = Completes (Returned status st)
 
 -- so many turns of a loop that counts, from a number on (6.8.5.3)
 abbrev pub for_turns : ℕ → ℕ → Counter → (State → Outcome Flow) → State → Outcome Flow
-for_turns zero i c body st = Gives (Went (with_count st c i))
+for_turns zero i c body st = Completes (Went (with_count st c i))
 for_turns (suc left) i c body st = body (with_count st c i) >>= (λ flow. after_turn flow (for_turns left (suc i) c body))
 
 -- at most n turns of a loop; past the bound where the test holds once more (6.8.5.1)
 abbrev pub while_turns : ℕ → (State → Outcome Bool) → (State → Outcome Flow) → State → Outcome Flow
-while_turns zero test body st = test st >>= (λ t. when t then PastBound else Gives (Went st))
+while_turns zero test body st = test st >>= (λ t. when t then PastBound else Completes (Went st))
 while_turns (suc n) test body st =
-    test st >>= (λ t. when t then body st >>= (λ flow. after_turn flow (while_turns n test body)) else Gives (Went st))
+    test st >>= (λ t. when t then body st >>= (λ flow. after_turn flow (while_turns n test body)) else Completes (Went st))
 
 -- a statement in a run in which each `while` makes at most n turns; of a store the value and its cast come before the subscript
 abbrev mutual
   pub run_sta : Sta → ℕ → State → ℕ → Outcome Flow
   run_sta (Set k e) n st at =
       value e st (at + 2)
-      >>= (λ w. found_at at (slice_get st.words k) >>= (λ old. assigned at old w >>= (λ new. Gives (Went (with_word st k new)))))
+      >>= (λ w. found_at at (slice_get st.words k) >>= (λ old. assigned at old w >>= (λ new. Completes (Went (with_word st k new)))))
   run_sta (Store array sub e) n st at =
       found_at at (writable_in st array)
       >>= (λ cells. value e st (at + 7 + tokens sub)
       >>= (λ w. kept (at + 4 + tokens sub) cells.container (whole_of w)
       >>= (λ z. value sub st (at + 2) >>= (λ k. stored (at + 1) st array cells z k))))
   run_sta (If t body) n st at =
-      holds t st (at + 2) >>= (λ c. when c then run_block body n st (at + 4 + test_tokens t) else Gives (Went st))
+      holds t st (at + 2) >>= (λ c. when c then run_block body n st (at + 4 + test_tokens t) else Completes (Went st))
   run_sta (IfElse t body other) n st at =
       holds t st (at + 2)
       >>= (λ c. when c then run_block body n st (at + 4 + test_tokens t)
@@ -277,11 +277,11 @@ abbrev mutual
       found_at (at + 2) (count_in st c) >>= (λ old. for_turns count 0 c (λ s. run_block body n s (at + 28)) st)
   run_sta (While t body) n st at =
       while_turns n (λ s. holds t s (at + 2)) (λ s. run_block body n s (at + 4 + test_tokens t)) st
-  run_sta Break n st at = Gives (Broke st)
-  run_sta Continue n st at = Gives (Continued st)
-  run_sta (Return status) n st at = Gives (Returned status st)
+  run_sta Break n st at = Completes (Broke st)
+  run_sta Continue n st at = Completes (Continued st)
+  run_sta (Return status) n st at = Completes (Returned status st)
 
   pub run_block : Block → ℕ → State → ℕ → Outcome Flow
-  run_block Done n st at = Gives (Went st)
+  run_block Done n st at = Completes (Went st)
   run_block (Next s more) n st at =
       run_sta s n st at >>= (λ flow. then_run flow (λ st. run_block more n st (at + sta_tokens s)))

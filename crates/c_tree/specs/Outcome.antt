@@ -3,13 +3,13 @@ use Rattle.std.specs.Prelude.{ℕ, Bool, true, false, Option, Some, None}
 
 -- how a part of a run ends
 pub data Outcome (A : Type 0) : Type 0 where
-  Gives : A → Outcome A
+  Completes : A → Outcome A
   PastBound : Outcome A
   UndefinedAt : ℕ → Outcome A
 
 -- goes on with the result
 unfoldable pub bind : {A B : Type 0} → Outcome A → (A → Outcome B) → Outcome B
-bind (Gives x) f = f x
+bind (Completes x) f = f x
 bind PastBound f = PastBound
 bind (UndefinedAt token) f = UndefinedAt token
 
@@ -31,4 +31,4 @@ when b then x else y = choose b x y
 -- what stands there, or undefined at a token
 unfoldable pub found_at : {A : Type 0} → ℕ → Option A → Outcome A
 found_at token None = UndefinedAt token
-found_at token (Some x) = Gives x
+found_at token (Some x) = Completes x

@@ -6,7 +6,7 @@ use Rattle.c_tree.specs.Tree.{Program}
 use Rattle.c_tree.specs.declared.array_names.Array.{Array}
 use Rattle.c_tree.specs.Names.{arrays_of}
 use Rattle.c_tree.specs.Tokens.{body_token, closing_token}
-use Rattle.c_tree.specs.Outcome.{Outcome, Gives, PastBound, UndefinedAt}
+use Rattle.c_tree.specs.Outcome.{Outcome, Completes, PastBound, UndefinedAt}
 use Rattle.c_tree.specs.Meaning.{Word, Int64, Uint64, Cells, State, Flow, Went, Broke, Continued, Returned, run_block}
 
 -- a status and what the output arrays hold; a loop past the bound; or an undefined operation, by the number of its token
@@ -42,10 +42,10 @@ start p inputs outputs = record {
 
 -- a function that ends without a return is undefined at its closing brace
 abbrev pub result_of : ℕ → Outcome Flow → Result
-result_of closing (Gives (Returned status st)) = Ended status (map (λ cells. cells.items) st.outputs)
-result_of closing (Gives (Went st)) = Undefined closing
-result_of closing (Gives (Broke st)) = Undefined closing
-result_of closing (Gives (Continued st)) = Undefined closing
+result_of closing (Completes (Returned status st)) = Ended status (map (λ cells. cells.items) st.outputs)
+result_of closing (Completes (Went st)) = Undefined closing
+result_of closing (Completes (Broke st)) = Undefined closing
+result_of closing (Completes (Continued st)) = Undefined closing
 result_of closing PastBound = Over
 result_of closing (UndefinedAt token) = Undefined token
 

@@ -3,6 +3,7 @@
 use crate::interface::Interface;
 use num_type::Container;
 use sqlite_items::{Boxed, Items};
+use std::alloc::Global;
 
 /// What a counter counts.
 #[derive(Clone, Copy, Debug, PartialEq, Eq)]
@@ -162,6 +163,31 @@ pub struct CTree {
     /// How many counters of loops of one turn there are.
     pub turns: u32,
     pub body: Items<CStmt>,
+}
+
+impl CTree {
+    ghost use Rattle.std.specs.Prelude.{◌≡◌, []};
+
+    /// The tree of these variables and statements, without local arrays and counters.
+    pub fn plain(
+        alloc: Global,
+        interface: Interface,
+        words: Items<CWord>,
+        body: Items<CStmt>,
+    ) -> CTree
+        ensures { result ≡ record { interface = interface; arrays = []; words = words; groups = 0; barriers = 0; sources = 0; turns = 0; body = body } }
+    {
+        CTree {
+            interface,
+            arrays: Items::new(alloc),
+            words,
+            groups: 0,
+            barriers: 0,
+            sources: 0,
+            turns: 0,
+            body,
+        }
+    }
 }
 
 /// What gives one value: the types of the variables that it takes, the statements that go before, and the expression.

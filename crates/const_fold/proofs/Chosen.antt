@@ -10,7 +10,8 @@ use Rattle.const_eval.specs.declared.constant.Const.{Const}
 use Rattle.const_eval.specs.Refusals.{RefusesOnly}
 use Rattle.const_eval.proofs.Operated.{only_because}
 use Rattle.const_fold.specs.Exponents.{IsPowered, IsUnpowered}
-use Rattle.const_fold.specs.Folds.{HasFolds, IsFolded, IsUnfolded, operator_text}
+use Rattle.const_fold.specs.Folds.{HasFolds, IsFolded, IsUnfolded}
+use Rattle.const_fold.specs.OperatorTexts.{operator_text}
 
 pub ok_because : {P Q : Const → Type 0} (r : Result Const (Stop Refusal)) → ((c : Const) → P c → Q c) → IfOk r P → IfOk r Q
 ok_because (Ok c) f h = f c h

@@ -1,5 +1,5 @@
 -- What the operators between two constants make of them.
-use Rattle.std.specs.Prelude.{◌⊎◌, ℕ, List, [], codes}
+use Rattle.std.specs.Prelude.{◌⊎◌, ℕ, List}
 use Rattle.fic_base.specs.declared.place.Place.{Place}
 use Rattle.fic_base.specs.declared.refusal.Refusal.{Refusal}
 use Rattle.mat_ast.specs.declared.tree.BinOp.{BinOp}
@@ -20,16 +20,6 @@ HasFolds ElemMul = Unit {0}
 HasFolds Pow = Unit {0}
 HasFolds ElemPow = Unit {0}
 HasFolds _ = ⊥
-
--- how they are spelled
-abbrev pub operator_text : BinOp → List ℕ
-operator_text Add = codes "+"
-operator_text Sub = codes "-"
-operator_text Mul = codes "*"
-operator_text ElemMul = codes ".*"
-operator_text Pow = codes "^"
-operator_text ElemPow = codes ".^"
-operator_text _ = []
 
 -- one of two constants has one element
 abbrev pub IsByElement : Const → Const → Type 0

@@ -1,3 +1,4 @@
 pub mod Exponents
 pub mod Folds
 pub mod MatrixProducts
+pub mod OperatorTexts

@@ -2,7 +2,8 @@
 
 ghost use Rattle.std.specs.Prelude.{◌≡◌, ◌↔◌, IfOk, IfErr, IsTrue};
 ghost use Rattle.const_eval.specs.Refusals.{RefusesOnly};
-ghost use Rattle.const_fold.specs.Folds.{HasFolds, IsByElement, IsFolded, IsMultiplied, IsUnfolded, IsUnmultiplied, operator_text};
+ghost use Rattle.const_fold.specs.Folds.{HasFolds, IsByElement, IsFolded, IsMultiplied, IsUnfolded, IsUnmultiplied};
+ghost use Rattle.const_fold.specs.OperatorTexts.{operator_text};
 
 use crate::matrix::matrix_product;
 use crate::power::{is_one, powered};
@@ -68,17 +69,30 @@ fn is_by_element(a: &Const, b: &Const) -> bool
     is_one(a.shape()) || is_one(b.shape())
 }
 
-// How an operator is spelled.
+// How an operator is written.
 fn operator_text(op: BinOp) -> &'static [u8]
     ensures { result.now ≡ operator_text op }
 {
     match op {
+        BinOp::OrOr => b"||",
+        BinOp::AndAnd => b"&&",
+        BinOp::Or => b"|",
+        BinOp::And => b"&",
+        BinOp::Eq => b"==",
+        BinOp::Ne => b"~=",
+        BinOp::Lt => b"<",
+        BinOp::Le => b"<=",
+        BinOp::Gt => b">",
+        BinOp::Ge => b">=",
         BinOp::Add => b"+",
         BinOp::Sub => b"-",
         BinOp::Mul => b"*",
         BinOp::ElemMul => b".*",
+        BinOp::Div => b"/",
+        BinOp::ElemDiv => b"./",
+        BinOp::LeftDiv => b"\\",
+        BinOp::ElemLeftDiv => b".\\",
         BinOp::Pow => b"^",
         BinOp::ElemPow => b".^",
-        _ => b"",
     }
 }

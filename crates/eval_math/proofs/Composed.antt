@@ -25,8 +25,8 @@ use Rattle.eval_value.specs.View.{fi_view, shape_view}
 use Rattle.eval_value.specs.declared.fi_value.FiValue.{FiValue}
 use Rattle.eval_math.specs.View.{complex_parts, crossed, crossed_parts, framed, in_type, items_of, of_frame, operand_view, parts_view, real_by, real_parts, side_by_side, work_view}
 use Rattle.eval_math.specs.declared.frame.Frame.{Frame}
-use Rattle.eval_math.specs.declared.operation.Operation.{Operation}
-use Rattle.eval_math.specs.declared.operation.Operation.TheVariants.{Sum, Difference, Product}
+use Rattle.const_eval.specs.declared.element_op.ElementOp.{ElementOp}
+use Rattle.const_eval.specs.declared.element_op.ElementOp.TheVariants.{Sum, Difference, Product}
 use Rattle.eval_math.proofs.Bound.{bound_some}
 
 -- ---- imaginary parts
@@ -48,34 +48,34 @@ together_is xs ys = refl
 
 -- ---- types
 
-made_at : (op : Operation) (m : Fimath) (a b : NumericType) → result_made (work_view op) false m a b ≡ work_made (work_view op) m a b
+made_at : (op : ElementOp) (m : Fimath) (a b : NumericType) → result_made (work_view op) false m a b ≡ work_made (work_view op) m a b
 unfolding result_made
 made_at Sum m a b = refl
 made_at Difference m a b = refl
 made_at Product m a b = refl
 
-pub made_real : (op : Operation) (m : Fimath) (a b t : NumericType) (c : Bool) → c ≡ false → result_made (work_view op) c m a b ≡ Is t → work_made (work_view op) m a b ≡ Is t
+pub made_real : (op : ElementOp) (m : Fimath) (a b t : NumericType) (c : Bool) → c ≡ false → result_made (work_view op) c m a b ≡ Is t → work_made (work_view op) m a b ≡ Is t
 made_real op m a b t c h e = sym (made_at op m a b) ∙ ap (λ (d : Bool). result_made (work_view op) d m a b) (sym h) ∙ e
 
-pub made_sum : (o : Operation) (m : Fimath) (a b t : NumericType) → o ≡ Sum → result_made (work_view o) true m a b ≡ Is t → work_made (work_view o) m a b ≡ Is t
+pub made_sum : (o : ElementOp) (m : Fimath) (a b t : NumericType) → o ≡ Sum → result_made (work_view o) true m a b ≡ Is t → work_made (work_view o) m a b ≡ Is t
 unfolding result_made
 made_sum o m a b t h e =
-    ap (λ (x : Operation). work_made (work_view x) m a b) h
-    ∙ ap (λ (x : Operation). result_made (work_view x) true m a b) (sym h)
+    ap (λ (x : ElementOp). work_made (work_view x) m a b) h
+    ∙ ap (λ (x : ElementOp). result_made (work_view x) true m a b) (sym h)
     ∙ e
 
-pub made_difference : (o : Operation) (m : Fimath) (a b t : NumericType) → o ≡ Difference → result_made (work_view o) true m a b ≡ Is t → work_made (work_view o) m a b ≡ Is t
+pub made_difference : (o : ElementOp) (m : Fimath) (a b t : NumericType) → o ≡ Difference → result_made (work_view o) true m a b ≡ Is t → work_made (work_view o) m a b ≡ Is t
 unfolding result_made
 made_difference o m a b t h e =
-    ap (λ (x : Operation). work_made (work_view x) m a b) h
-    ∙ ap (λ (x : Operation). result_made (work_view x) true m a b) (sym h)
+    ap (λ (x : ElementOp). work_made (work_view x) m a b) h
+    ∙ ap (λ (x : ElementOp). result_made (work_view x) true m a b) (sym h)
     ∙ e
 
-pub made_product : (o : Operation) (m : Fimath) (a b t : NumericType) → o ≡ Product → result_made (work_view o) true m a b ≡ Is t → complex_product_made m a b ≡ Is t
+pub made_product : (o : ElementOp) (m : Fimath) (a b t : NumericType) → o ≡ Product → result_made (work_view o) true m a b ≡ Is t → complex_product_made m a b ≡ Is t
 unfolding result_made
-made_product o m a b t h e = ap (λ (x : Operation). result_made (work_view x) true m a b) (sym h) ∙ e
+made_product o m a b t h e = ap (λ (x : ElementOp). result_made (work_view x) true m a b) (sym h) ∙ e
 
-pub made_both : (o : Operation) (m : Fimath) (a b t : NumericType) (p q : Bool) → p ≡ true → q ≡ true → result_made (work_view o) (p && q) m a b ≡ Is t → result_made (work_view o) true m a b ≡ Is t
+pub made_both : (o : ElementOp) (m : Fimath) (a b t : NumericType) (p q : Bool) → p ≡ true → q ≡ true → result_made (work_view o) (p && q) m a b ≡ Is t → result_made (work_view o) true m a b ≡ Is t
 made_both o m a b t p q h g e = (λ i. result_made (work_view o) (sym h i && sym g i) m a b) ∙ e
 
 -- ---- parts
@@ -83,19 +83,19 @@ made_both o m a b t p q h g e = (λ i. result_made (work_view o) (sym h i && sym
 pub framed_by : (f : Frame) (o : Option Parts) (p : Parts) (x : Operand) → x ≡ of_frame f p → Some p ≡ o → Some x ≡ framed f o
 framed_by f o p x e h = bound_some o (λ (r : Parts). Some (of_frame f r)) p (Some x) h (ap Some e)
 
-real_at : (op : Operation) (m : Fimath) (t : NumericType) (a b : Operand) → Some (real_parts op m t a b) ≡ result_parts (work_view op) m t a b false false
+real_at : (op : ElementOp) (m : Fimath) (t : NumericType) (a b : Operand) → Some (real_parts op m t a b) ≡ result_parts (work_view op) m t a b false false
 unfolding result_parts
 real_at Sum m t a b = refl
 real_at Difference m t a b = refl
 real_at Product m t a b = refl
 
-left_at : (op : Operation) (m : Fimath) (t : NumericType) (a b : Operand) → Some (crossed_parts op m t a b true false) ≡ result_parts (work_view op) m t a b true false
+left_at : (op : ElementOp) (m : Fimath) (t : NumericType) (a b : Operand) → Some (crossed_parts op m t a b true false) ≡ result_parts (work_view op) m t a b true false
 unfolding result_parts
 left_at Sum m t a b = refl
 left_at Difference m t a b = refl
 left_at Product m t a b = refl
 
-right_at : (op : Operation) (m : Fimath) (t : NumericType) (a b : Operand) → Some (crossed_parts op m t a b false true) ≡ result_parts (work_view op) m t a b false true
+right_at : (op : ElementOp) (m : Fimath) (t : NumericType) (a b : Operand) → Some (crossed_parts op m t a b false true) ≡ result_parts (work_view op) m t a b false true
 unfolding result_parts
 right_at Sum m t a b = refl
 right_at Difference m t a b = refl
@@ -135,19 +135,19 @@ of_both f a b x p q h g e = e ∙ (λ i. framed f (parts_by f a b (sym h i) (sym
 pub of_sums : (f : Frame) (a b x : Operand) → f.op ≡ Sum → x ≡ of_frame f (crossed f a b true true) → Some x ≡ framed f (parts_by f a b true true)
 of_sums f a b x h e =
     framed_by f (parts_by f a b true true) (crossed f a b true true) x e
-    (ap (λ (o : Operation). Some (crossed_parts o f.by.math (type_of f.num) a b true true)) h
+    (ap (λ (o : ElementOp). Some (crossed_parts o f.by.math (type_of f.num) a b true true)) h
     ∙ sum_at f.by.math (type_of f.num) a b
-    ∙ ap (λ (o : Operation). result_parts (work_view o) f.by.math (type_of f.num) a b true true) (sym h))
+    ∙ ap (λ (o : ElementOp). result_parts (work_view o) f.by.math (type_of f.num) a b true true) (sym h))
 
 pub of_differences : (f : Frame) (a b x : Operand) → f.op ≡ Difference → x ≡ of_frame f (crossed f a b true true) → Some x ≡ framed f (parts_by f a b true true)
 of_differences f a b x h e =
     framed_by f (parts_by f a b true true) (crossed f a b true true) x e
-    (ap (λ (o : Operation). Some (crossed_parts o f.by.math (type_of f.num) a b true true)) h
+    (ap (λ (o : ElementOp). Some (crossed_parts o f.by.math (type_of f.num) a b true true)) h
     ∙ difference_at f.by.math (type_of f.num) a b
-    ∙ ap (λ (o : Operation). result_parts (work_view o) f.by.math (type_of f.num) a b true true) (sym h))
+    ∙ ap (λ (o : ElementOp). result_parts (work_view o) f.by.math (type_of f.num) a b true true) (sym h))
 
 pub of_products : (f : Frame) (a b x : Operand) → f.op ≡ Product → Some x ≡ framed f (result_parts work.Product f.by.math (type_of f.num) a b true true) → Some x ≡ framed f (parts_by f a b true true)
-of_products f a b x h e = e ∙ ap (λ (o : Operation). framed f (result_parts (work_view o) f.by.math (type_of f.num) a b true true)) (sym h)
+of_products f a b x h e = e ∙ ap (λ (o : ElementOp). framed f (result_parts (work_view o) f.by.math (type_of f.num) a b true true)) (sym h)
 
 pub of_complex : (f : Frame) (a b x : Operand) (u : NumericType) → product_made f.by.math a.num b.num ≡ Is u → x ≡ of_frame f (complex_parts f.by.math (type_of f.num) u a b) → Some x ≡ framed f (result_parts work.Product f.by.math (type_of f.num) a b true true)
 of_complex f a b x u h e =

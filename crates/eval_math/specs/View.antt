@@ -13,8 +13,8 @@ use Rattle.fi_values.specs.Arithmetic.{Operand, Parts, imaginary, complex_elemen
 use Rattle.eval_value.specs.View.{shape_view}
 use Rattle.eval_value.specs.declared.fi_value.FiValue.{FiValue}
 use Rattle.eval_math.specs.declared.frame.Frame.{Frame}
-use Rattle.eval_math.specs.declared.operation.Operation.{Operation}
-use Rattle.eval_math.specs.declared.operation.Operation.TheVariants as operation
+use Rattle.const_eval.specs.declared.element_op.ElementOp.{ElementOp}
+use Rattle.const_eval.specs.declared.element_op.ElementOp.TheVariants as operation
 
 -- ---- elements that meet
 
@@ -52,7 +52,7 @@ operand_view v = record { num = type_of v.num; math = v.math; shape = shape_view
 
 -- ---- operations
 
-abbrev pub work_view : Operation → Work
+abbrev pub work_view : ElementOp → Work
 work_view operation.Sum = work.Sum
 work_view operation.Difference = work.Difference
 work_view operation.Product = work.Product
@@ -69,21 +69,21 @@ abbrev pub element_by : Frame → NumericType → NumericType → ℤ → ℤ �
 element_by f a b x y = element (work_view f.op) f.by.math (type_of f.num) a b x y
 
 -- what an operand gives the imaginary part of a result: a real one its real part to a product, and zeros to a sum
-abbrev pub crossing : Operation → Bool → Parts → List ℤ
+abbrev pub crossing : ElementOp → Bool → Parts → List ℤ
 crossing operation.Sum complex p = imaginary p
 crossing operation.Difference complex p = imaginary p
 crossing operation.Product true p = imaginary p
 crossing operation.Product false p = p.re
 
 -- the parts of a real result
-abbrev pub real_parts : Operation → Fimath → NumericType → Operand → Operand → Parts
+abbrev pub real_parts : ElementOp → Fimath → NumericType → Operand → Operand → Parts
 real_parts op m t a b = record { re = pairwise (element (work_view op) m t a.num b.num) a.parts.re b.parts.re; im = None }
 
 abbrev pub real_by : Frame → Operand → Operand → Parts
 real_by f a b = real_parts f.op f.by.math (type_of f.num) a b
 
 -- the parts of a result where an operand is complex, but for a product of two
-abbrev pub crossed_parts : Operation → Fimath → NumericType → Operand → Operand → Bool → Bool → Parts
+abbrev pub crossed_parts : ElementOp → Fimath → NumericType → Operand → Operand → Bool → Bool → Parts
 crossed_parts op m t a b p q = record {
   re = pairwise (element (work_view op) m t a.num b.num) a.parts.re b.parts.re;
   im = Some (pairwise (element (work_view op) m t a.num b.num) (crossing op p a.parts) (crossing op q b.parts));
@@ -101,5 +101,5 @@ complex_parts m t p a b =
     record { re = map (λ z. z.0) zs; im = Some (map (λ z. z.1) zs) }
 
 -- the same frame for another operation, with a result of this type
-abbrev pub in_type : Frame → Operation → NumType → Frame
+abbrev pub in_type : Frame → ElementOp → NumType → Frame
 in_type f op t = record { op = op; by = f.by; num = t; shape = f.shape }

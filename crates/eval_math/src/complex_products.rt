@@ -10,12 +10,12 @@ ghost use Rattle.fi_rules.specs.declared.work.Work.TheVariants as work;
 ghost use Rattle.fi_eval.specs.Operators.{pairwise};
 ghost use Rattle.fi_values.specs.Arithmetic.{result_parts};
 ghost use Rattle.eval_math.specs.View.{IsMet, complex_parts, element_by, framed, in_type, of_frame, operand_view};
-ghost use Rattle.eval_math.specs.declared.operation.Operation.TheVariants as operation;
+ghost use Rattle.const_eval.specs.declared.element_op.ElementOp.TheVariants as operation;
 
 use crate::elementwise::each;
 use crate::frame::Frame;
 use crate::operand::imaginary;
-use crate::operation::Operation;
+use const_eval::ElementOp;
 use eval_value::FiValue;
 use fi_math::product_type;
 use num_type::{Int, Memory, NumType};
@@ -89,7 +89,7 @@ fn real_parts(
     ensures many { IfOk result (λ v. vec_len v ≡ elements_of frame.now.shape) }
     ensures inside { IfOk result (λ v. All (IsInRange (type_of frame.now.num)) v.items) }
 {
-    let products = in_type(frame, Operation::Product, p);
+    let products = in_type(frame, ElementOp::Product, p);
     let first = each(
         alloc,
         &products,
@@ -99,7 +99,7 @@ fn real_parts(
         b.re.as_slice(),
     )?;
     let second = each(alloc, &products, a.num, left, b.num, right)?;
-    let differences = in_type(frame, Operation::Difference, frame.num);
+    let differences = in_type(frame, ElementOp::Difference, frame.num);
     let v = each(
         alloc,
         &differences,
@@ -132,16 +132,16 @@ fn imaginary_parts(
     ensures many { IfOk result (λ v. vec_len v ≡ elements_of frame.now.shape) }
     ensures inside { IfOk result (λ v. All (IsInRange (type_of frame.now.num)) v.items) }
 {
-    let products = in_type(frame, Operation::Product, p);
+    let products = in_type(frame, ElementOp::Product, p);
     let first = each(alloc, &products, a.num, a.re.as_slice(), b.num, right)?;
     let second = each(alloc, &products, a.num, left, b.num, b.re.as_slice())?;
-    let sums = in_type(frame, Operation::Sum, frame.num);
+    let sums = in_type(frame, ElementOp::Sum, frame.num);
     let v = each(alloc, &sums, p, first.as_slice(), p, second.as_slice())?;
     Ok(v)
 }
 
 // The same frame for another operation, with a result of this type.
-fn in_type(frame: &Frame, op: Operation, num: NumType) -> Frame
+fn in_type(frame: &Frame, op: ElementOp, num: NumType) -> Frame
     ensures { result ≡ in_type frame.now op num }
 {
     Frame {

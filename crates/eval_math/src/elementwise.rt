@@ -18,8 +18,9 @@ use crate::complex_products::complex_product;
 use crate::elements::pairs;
 use crate::frame::Frame;
 use crate::operand::{both, crossing_parts, governing, is_complex};
-use crate::operation::{Operation, element, result_type};
+use crate::operation::{element, result_type};
 use crate::shapes::common;
+use const_eval::ElementOp;
 use eval_value::{FiValue, Value};
 use fi_math::Governed;
 use fi_ops::Elem;
@@ -31,7 +32,7 @@ use std::alloc::Global;
 /// the type of the result isn't within the limits.
 pub fn computed(
     alloc: Global,
-    op: Operation,
+    op: ElementOp,
     a: &FiValue,
     b: &FiValue,
 ) -> Result<Option<Value>, Memory>
@@ -49,7 +50,7 @@ pub fn computed(
 // The same of this shape.
 fn governed(
     alloc: Global,
-    op: Operation,
+    op: ElementOp,
     shape: Shape,
     a: &FiValue,
     b: &FiValue,
@@ -69,7 +70,7 @@ fn governed(
 // The same under a governing fimath.
 fn typed(
     alloc: Global,
-    op: Operation,
+    op: ElementOp,
     shape: Shape,
     by: &Governed,
     a: &FiValue,
@@ -132,15 +133,15 @@ fn complex_result(alloc: Global, frame: &Frame, a: &FiValue, b: &FiValue) -> Res
     ensures { IfOk result (λ v. Some (operand_view v) ≡ framed frame.now (result_parts (work_view frame.now.op) frame.now.by.math (type_of frame.now.num) (operand_view a.now) (operand_view b.now) true true)) }
 {
     match frame.op {
-        Operation::Sum => {
+        ElementOp::Sum => {
             let v = crossed_result(alloc, frame, a, b, true, true)?;
             Ok(v)
         }
-        Operation::Difference => {
+        ElementOp::Difference => {
             let v = crossed_result(alloc, frame, a, b, true, true)?;
             Ok(v)
         }
-        Operation::Product => {
+        ElementOp::Product => {
             let v = complex_product(alloc, frame, a, b)?;
             Ok(v)
         }

@@ -20,10 +20,11 @@ use crate::cells::{cells, product_shape};
 use crate::elementwise::operated;
 use crate::frame::Frame;
 use crate::operand::{both, either, governing, is_complex};
-use crate::operation::{Operation, result_type};
+use crate::operation::result_type;
 use crate::places::{column_places, row_places};
 use crate::shapes::row_of;
 use crate::totals::total;
+use const_eval::ElementOp;
 use eval_value::{FiValue, Value, picked};
 use fi_math::{Fimath, Governed, sum_type};
 use num_type::{Int, Memory, NumType};
@@ -76,7 +77,7 @@ fn typed(
 {
     let p = is_complex(a);
     let q = is_complex(b);
-    match result_type(Operation::Product, both(p, q), &by.math, a.num, b.num) {
+    match result_type(ElementOp::Product, both(p, q), &by.math, a.num, b.num) {
         None => Ok(None),
         Some(product) => {
             let r = summed(alloc, shape, by, product, a, b)?;
@@ -252,7 +253,7 @@ fn entry(
     let left = row_places(alloc, a.shape, i)?;
     let right = column_places(alloc, b.shape, j)?;
     let frame = Frame {
-        op: Operation::Product,
+        op: ElementOp::Product,
         by: how.by,
         num: how.product,
         shape: row_of(a.shape.cols()),

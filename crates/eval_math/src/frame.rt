@@ -1,6 +1,6 @@
 //! What is computed of two operands.
 
-use crate::operation::Operation;
+use const_eval::ElementOp;
 use fi_math::Governed;
 use num_type::NumType;
 use shape_rules::Shape;
@@ -9,7 +9,7 @@ use shape_rules::Shape;
 #[derive(Clone, Copy)]
 pub struct Frame {
     /// What is computed.
-    pub op: Operation,
+    pub op: ElementOp,
     /// The governing fimath, and the one that is attached to the result.
     pub by: Governed,
     /// The type of the result.

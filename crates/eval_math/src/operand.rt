@@ -6,9 +6,9 @@ ghost use Rattle.num_type.specs.View.{type_of};
 ghost use Rattle.shape_rules.specs.Shapes.{elements_of};
 ghost use Rattle.fi_values.specs.Arithmetic as arithmetic;
 ghost use Rattle.eval_math.specs.View.{crossing, parts_view};
-ghost use Rattle.eval_math.specs.declared.operation.Operation.TheVariants as operation;
+ghost use Rattle.const_eval.specs.declared.element_op.ElementOp.TheVariants as operation;
 
-use crate::operation::Operation;
+use const_eval::ElementOp;
 use eval_value::FiValue;
 use fi_math::{Fimath, Governed, govern};
 use num_type::{Int, Memory, NumType};
@@ -69,7 +69,7 @@ fn zeros(alloc: Global, t: NumType, parts: &[Int]) -> Result<Vec<Int>, Memory>
 /// complex one its imaginary part. Want of memory is the only refusal.
 pub fn crossing_parts(
     alloc: Global,
-    op: Operation,
+    op: ElementOp,
     complex: bool,
     v: &FiValue,
 ) -> Result<Vec<Int>, Memory>
@@ -78,15 +78,15 @@ pub fn crossing_parts(
     ensures inside { IfOk result (λ p. All (IsInRange (type_of v.now.num)) p.items) }
 {
     match op {
-        Operation::Sum => {
+        ElementOp::Sum => {
             let p = imaginary(alloc, v)?;
             Ok(p)
         }
-        Operation::Difference => {
+        ElementOp::Difference => {
             let p = imaginary(alloc, v)?;
             Ok(p)
         }
-        Operation::Product => {
+        ElementOp::Product => {
             let p = factor(alloc, complex, v)?;
             Ok(p)
         }

@@ -12,31 +12,21 @@ ghost use Rattle.fi_values.specs.Arithmetic.{is_arithmetic, result_made};
 ghost use Rattle.fi_values.specs.Sums as sums;
 ghost use Rattle.eval_math.specs.View.{work_view};
 
+use const_eval::ElementOp;
 use fi_math::{Fimath, NoType, add_type, complex_product_type, product_type, sub_type};
 use fi_ops::{Elem, add, mul, sub};
 use fi_rules::Work;
 use num_type::NumType;
 
-/// What is computed element by element.
-#[derive(Clone, Copy, Debug, PartialEq, Eq)]
-pub enum Operation {
-    /// `+`.
-    Sum,
-    /// `-`.
-    Difference,
-    /// `.*`, and `*` with a single element.
-    Product,
-}
-
 /// The operation that a work is. None where it is another one.
 #[tactic(auto, unfolding(fi_values::specs::Arithmetic::is_arithmetic, fi_rules::specs::Options::where_so))]
-pub fn operation_of(work: Work) -> Option<Operation>
+pub fn operation_of(work: Work) -> Option<ElementOp>
     ensures { option_map work_view result ≡ where_so (is_arithmetic work) work }
 {
     match work {
-        Work::Sum => Some(Operation::Sum),
-        Work::Difference => Some(Operation::Difference),
-        Work::Product => Some(Operation::Product),
+        Work::Sum => Some(ElementOp::Sum),
+        Work::Difference => Some(ElementOp::Difference),
+        Work::Product => Some(ElementOp::Product),
         Work::Power => None,
         Work::Division => None,
         Work::Later => None,
@@ -47,7 +37,7 @@ pub fn operation_of(work: Work) -> Option<Operation>
 /// within the limits.
 #[tactic(auto, unfolding(fi_values::specs::Arithmetic::result_made, fi_rules::specs::Pairs::work_made))]
 pub fn result_type(
-    op: Operation,
+    op: ElementOp,
     complex: bool,
     m: &Fimath,
     a: NumType,
@@ -57,9 +47,9 @@ pub fn result_type(
     ensures made { IfSome result (λ t. result_made (work_view op) complex m.now (type_of a) (type_of b) ≡ Is (type_of t)) }
 {
     match op {
-        Operation::Sum => within(add_type(m, a, b)),
-        Operation::Difference => within(sub_type(m, a, b)),
-        Operation::Product => {
+        ElementOp::Sum => within(add_type(m, a, b)),
+        ElementOp::Difference => within(sub_type(m, a, b)),
+        ElementOp::Product => {
             if complex {
                 within(complex_product_type(m, a, b))
             } else {
@@ -83,15 +73,15 @@ pub fn within(found: Result<NumType, NoType>) -> Option<NumType>
 
 /// The element of a result, of the type that `result_type` gives of two real operands.
 #[tactic(auto, unfolding(fi_rules::specs::Pairs::work_made))]
-pub fn element(op: Operation, m: &Fimath, t: NumType, a: Elem, b: Elem) -> Elem
+pub fn element(op: ElementOp, m: &Fimath, t: NumType, a: Elem, b: Elem) -> Elem
     requires { work_made (work_view op) m.now (type_of a.num) (type_of b.num) ≡ Is (type_of t) }
     ensures num { result.num ≡ t }
     ensures value { result.z ≡ operators.element (work_view op) m.now (type_of t) (type_of a.num) (type_of b.num) a.z b.z }
     ensures inside { IsInRange (type_of t) result.z }
 {
     match op {
-        Operation::Sum => add(m, t, a, b),
-        Operation::Difference => sub(m, t, a, b),
-        Operation::Product => mul(m, t, a, b),
+        ElementOp::Sum => add(m, t, a, b),
+        ElementOp::Difference => sub(m, t, a, b),
+        ElementOp::Product => mul(m, t, a, b),
     }
 }

@@ -12,7 +12,7 @@ use crate::comparison::Comparison;
 use crate::elementwise::computed;
 use crate::fi_comparisons::fis_compared;
 use crate::fi_products::fi_product;
-use crate::operation::Operation;
+use const_eval::ElementOp;
 use eval_value::{FiValue, NumberValue, Value};
 use num_type::Memory;
 use std::alloc::Global;
@@ -21,7 +21,7 @@ use std::alloc::Global;
 #[derive(Clone, Copy)]
 pub enum Task {
     /// A sum, a difference or a product element by element.
-    Compute(Operation),
+    Compute(ElementOp),
     /// A matrix product.
     Multiply,
     /// A comparison.

@@ -20,7 +20,7 @@ use Rattle.eval_value.specs.declared.halt.Halt.{Halt}
 use Rattle.eval_value.specs.declared.value.Value.{Value}
 use Rattle.eval_source.specs.Items.{item_value}
 use Rattle.eval_call.proofs.Follow.{after_ok, after_err}
-use Rattle.eval_source.proofs.Views.{range_by_view, item_is, all_is}
+use Rattle.walk_scope.proofs.Opened.{range_by_view, item_is, all_is}
 
 -- a range with a step
 pub stepped : (e first step last : Expr) (o : Option Expr) (cx : Context) (env : Env) (ends : Option ℕ) (x s : Val) (r : Result Value Halt) → (out-Expr e).kind ≡ kind.Range first o last → o ≡ Some step

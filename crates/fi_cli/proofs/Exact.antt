@@ -1,6 +1,6 @@
 -- The statuses that have to come.
 use Rattle.std.proofs.Common.{inl, inr, ◌⊎◌, ◌≡◌, ℕ, zero, suc, ◌+◌, ◌<◌, ◌≤◌, ℤ, List, [], ◌∷◌, length, drop, refl, sym, ap, ◌∙◌, subst, arith}
-use Rattle.std.specs.Prelude.{Option, Some, None}
+use Rattle.std.specs.Prelude.{Option, Some, None, IfSome}
 use Rattle.std.proofs.lemmas.Bool.{cases_lt}
 use Rattle.std.proofs.lemmas.List.{take-append-drop}
 use Rattle.fic_base.specs.declared.refusal.Refusal.{Refusal}
@@ -74,8 +74,8 @@ accepted_only source entry ds types r w (inr v) =
     v.tells
 
 -- what is told of bytes that are told
-told_of : {A : Type 0} (o : Option A) (P : A → Type 0) (a : A) → o ≡ Some a → io.Told o P → P a
-told_of o P a e h = subst (λ x. io.Told x P) e h
+told_of : {A : Type 0} (o : Option A) (P : A → Type 0) (a : A) → o ≡ Some a → IfSome o P → P a
+told_of o P a e h = subst (λ x. IfSome x P) e h
 
 -- Texts and cases
 

@@ -1,9 +1,9 @@
 -- What the statuses say.
 use Rattle.std.proofs.Common.{inl, inr, ◌≡◌, ℕ, List, refl, sym, subst, Result, Ok, Err}
-use Rattle.std.specs.Prelude.{Option, Some, None, OnOk, OnErr}
+use Rattle.std.specs.Prelude.{Option, Some, None, IfSome, OnOk, OnErr}
 use Rattle.shape_rules.specs.declared.declared.Declared.{Declared}
 use Rattle.fic_io.specs.declared.sink.Failed.{Failed}
-use Rattle.fic_io.specs.Causes.{Told, appended}
+use Rattle.fic_io.specs.Causes.{appended}
 use Rattle.fi_cli.specs.Gains.{GainsPart}
 use Rattle.fi_cli.specs.Forms.{Command, Compile, IsForm}
 use Rattle.fi_cli.specs.Commands.{Bad, BadSource}
@@ -15,7 +15,7 @@ use Rattle.fi_cli.specs.Source.{IsSourceRefusal}
 use Rattle.fi_cli.specs.View.{Delivers, PutsLine, TellsCause, StopIs, RefusesAt}
 
 -- a fact of bytes that are told gives another
-pub told_map : {A : Type 0} (o : Option A) (P Q : A → Type 0) → ((a : A) → P a → Q a) → Told o P → Told o Q
+pub told_map : {A : Type 0} (o : Option A) (P Q : A → Type 0) → ((a : A) → P a → Q a) → IfSome o P → IfSome o Q
 told_map None P Q f h = tt
 told_map (Some a) P Q f h = f a h
 
@@ -47,7 +47,7 @@ text_told result text words shelf out err asked (inr p) =
 
 -- a refusal of what was read stands, where it is one of the source
 pub refused_stands : (stop : Stop Refusal) (cause : Cause) (read file entry : List ℕ) (ds : List Declared) (shelf : ShelfSide) → StopIs cause (λ r. Refused (BadSource r)) stop → RefusesAt stop (IsSourceRefusal read entry ds)
-    → ((r : Refusal) → IsSourceRefusal read entry ds r → Told (shelf.told file) (λ source. IsSourceRefusal source entry ds r)) → StandsAt cause (Compile file entry ds) shelf
+    → ((r : Refusal) → IsSourceRefusal read entry ds r → IfSome (shelf.told file) (λ source. IsSourceRefusal source entry ds r)) → StandsAt cause (Compile file entry ds) shelf
 refused_stands (stop.Refused r) cause read file entry ds shelf is h f = subst (λ c. StandsAt c (Compile file entry ds) shelf) (sym is) (f r h)
 refused_stands stop.Memory cause read file entry ds shelf is h f = subst (λ c. StandsAt c (Compile file entry ds) shelf) (sym is) tt
 

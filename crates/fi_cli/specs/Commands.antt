@@ -1,7 +1,6 @@
 -- What a command gives, and why it is refused, by the contents of the files that it names.
-use Rattle.std.specs.Prelude.{◌≡◌, ◌⊎◌, ℕ, List, [], ◌∷◌, Option, Some}
+use Rattle.std.specs.Prelude.{◌≡◌, ◌⊎◌, ℕ, List, [], ◌∷◌, Option, Some, IfSome}
 use Rattle.fic_base.specs.declared.refusal.Refusal.{Refusal}
-use Rattle.fic_io.specs.Causes as shelf
 use Rattle.c_tree.specs.Tree.{Program}
 use Rattle.c_read.specs.declared.refusal.CRefusal.{CRefusal}
 use Rattle.c_read.specs.Program as text
@@ -46,7 +45,7 @@ IsOutput _ _ _ = ⊥
 -- what holds of the contents of files, where they are all told
 abbrev pub AllTold : (List ℕ → Option (List ℕ)) → List (List ℕ) → (List (List ℕ) → Type 0) → Type 0
 AllTold told [] P = P []
-AllTold told (name ∷ more) P = shelf.Told (told name) (λ bytes. AllTold told more (λ contents. P (bytes ∷ contents)))
+AllTold told (name ∷ more) P = IfSome (told name) (λ bytes. AllTold told more (λ contents. P (bytes ∷ contents)))
 
 -- the contents of files
 abbrev pub AreContents : (List ℕ → Option (List ℕ)) → List (List ℕ) → List (List ℕ) → Type 0

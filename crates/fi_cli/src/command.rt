@@ -1,7 +1,6 @@
 //! What commands give.
 
-ghost use Rattle.std.specs.Prelude.{◌≡◌, ◌≤◌, ◌↔◌, length, IsTrue, IfOk, IfErr, OnOk};
-ghost use Rattle.fic_io.specs.Causes.{Told};
+ghost use Rattle.std.specs.Prelude.{◌≡◌, ◌≤◌, ◌↔◌, length, IsTrue, IfOk, IfErr, IfSome, OnOk};
 ghost use Rattle.fi_cli.specs.Forms as form;
 ghost use Rattle.fi_cli.specs.Commands.{BadSource};
 ghost use Rattle.fi_cli.specs.Causes.{ShelfSide, Refused, StandsAt, Yields};
@@ -101,7 +100,7 @@ fn read_whole<'a, S: Shelf>(
     name: &'a str,
     shelf: &mut S,
 ) -> Result<Vec<u8>, Fault<'a>>
-    ensures bytes { IfOk result (λ bytes. Told (S.told shelf.old name.now) (λ told. bytes.items ≡ told)) }
+    ensures bytes { IfOk result (λ bytes. IfSome (S.told shelf.old name.now) (λ told. bytes.items ≡ told)) }
     ensures counts { OnOk result (S.faults shelf.new ≡ S.faults shelf.old) }
     ensures keeps { S.told shelf.new ≡ S.told shelf.old }
     ensures rises { S.faults shelf.old ≤ S.faults shelf.new }

@@ -1,5 +1,5 @@
 -- What reads and puts leave, and when they may fail.
-use Rattle.std.specs.Prelude.{◌≡◌, ℕ, ◌+◌, ◌-◌, ◌^◌, ◌≤◌, min, List, ◌++◌, take, length, Option, Some, None, Result, Ok, Err, Bool, true, false}
+use Rattle.std.specs.Prelude.{◌≡◌, ℕ, ◌+◌, ◌-◌, ◌^◌, ◌≤◌, min, List, ◌++◌, take, length, Option, Some, None, IfSome, Result, Ok, Err, Bool, true, false}
 use Rattle.fic_io.specs.declared.shelf.ShelfFault.{ShelfFault}
 use Rattle.fic_io.specs.declared.shelf.ShelfFault.TheVariants as fault
 use Rattle.fic_io.specs.declared.sink.Failed.{Failed}
@@ -22,15 +22,10 @@ pub record GrewBy (limit : ℕ) (old new : List ℕ) : Type 0 where
   pub behind : new ≡ old ++ came
   pub few : length came ≤ limit
 
--- what holds of the bytes, where they are told
-abbrev pub Told : {A : Type 0} → Option A → (A → Type 0) → Type 0
-Told None P = Unit {0}
-Told (Some a) P = P a
-
 -- what a read of a name leaves: the count of faults, the name of the last failure, and the bytes read into
 abbrev pub ReadLeaves : Result (Unit {0}) ShelfFault → List ℕ → ℕ → ℕ → Option (List ℕ) → List ℕ → List ℕ → List ℕ → List ℕ → ℕ → Type 0
 ReadLeaves (Ok u) name before now told last last_now old new limit =
-    (now ≡ before) × (last_now ≡ last) × GrewBy limit old new × Told told (λ bytes. new ≡ old ++ take limit bytes)
+    (now ≡ before) × (last_now ≡ last) × GrewBy limit old new × IfSome told (λ bytes. new ≡ old ++ take limit bytes)
 ReadLeaves (Err fault.Failed) name before now told last last_now old new limit =
     RoseByOne before now × (last_now ≡ name) × (new ≡ old)
 ReadLeaves (Err fault.Memory) name before now told last last_now old new limit =

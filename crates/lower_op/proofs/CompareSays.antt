@@ -18,7 +18,7 @@ use Rattle.c_tree.specs.declared.tree.CRel.{CRel}
 use Rattle.c_tree.specs.declared.tree.CRel.TheVariants as rel
 use Rattle.c_tree.specs.Tree.{Exp, Signed, Var}
 use Rattle.c_tree.specs.Tokens.{tokens}
-use Rattle.c_tree.specs.Outcome.{Gives, ◌>>=◌, bind}
+use Rattle.c_tree.specs.Outcome.{Completes, ◌>>=◌, bind}
 use Rattle.c_tree.specs.Meaning.{Word, Int64, Uint64, State, value, compared, related, number_of}
 use Rattle.lower_scalar.specs.Part.{word}
 use Rattle.lower_scalar.specs.Shapes.{floor_shift, far_floor, low_bits, bits_of}
@@ -32,13 +32,13 @@ use Rattle.lower_op.proofs.Orders.{related_is, digit_is, level_order, above_less
 
 -- ---- whole numbers
 
-truth_says : {a b : Exp} {st : State} (r : CRel) (x y : Word) (v : Bool) → ((at : ℕ) → compared at r x y ≡ Gives v) → Says a st x → Says b st y → Says (truth_of r a b) st (Int64 (number_of v))
+truth_says : {a b : Exp} {st : State} (r : CRel) (x y : Word) (v : Bool) → ((at : ℕ) → compared at r x y ≡ Completes v) → Says a st x → Says b st y → Says (truth_of r a b) st (Int64 (number_of v))
 unfolding bind
 truth_says {a} {b} {st} r x y v h p q = record {
   says = λ at.
-      ap (λ g. (g >>= (λ i. value b st (at + 4 + 1 + tokens a) >>= (λ j. compared (at + 4 + tokens a) r i j))) >>= (λ t. Gives (Int64 (number_of t)))) (p.says (at + 4))
-      ∙ (ap (λ g. (g >>= (λ j. compared (at + 4 + tokens a) r x j)) >>= (λ t. Gives (Int64 (number_of t)))) (q.says (at + 4 + 1 + tokens a))
-      ∙ ap (λ g. g >>= (λ t. Gives (Int64 (number_of t)))) (h (at + 4 + tokens a)));
+      ap (λ g. (g >>= (λ i. value b st (at + 4 + 1 + tokens a) >>= (λ j. compared (at + 4 + tokens a) r i j))) >>= (λ t. Completes (Int64 (number_of t)))) (p.says (at + 4))
+      ∙ (ap (λ g. (g >>= (λ j. compared (at + 4 + tokens a) r x j)) >>= (λ t. Completes (Int64 (number_of t)))) (q.says (at + 4 + 1 + tokens a))
+      ∙ ap (λ g. g >>= (λ t. Completes (Int64 (number_of t)))) (h (at + 4 + tokens a)));
 }
 
 -- a constant truth value

@@ -1,6 +1,8 @@
 -- Parts as the code makes them, step by step, are the parts of the operations.
-use Rattle.std.proofs.Common.{◌≡◌, ℕ, suc, ◌+◌, ◌≤◌, true, false, ◌⊎◌, refl, sym, ap, ◌∙◌, subst, length}
+use Rattle.std.proofs.Common.{◌≡◌, ℕ, suc, ◌+◌, ◌≤◌, Bool, true, false, ◌⊎◌, refl, sym, ap, ◌∙◌, subst, length}
 use Rattle.num_type.specs.Types.{NumericType, IsWithin}
+use Rattle.num_type.specs.declared.methods.Overflow.{Overflow}
+use Rattle.num_type.specs.declared.methods.Overflow.TheVariants.{Saturate, Wrap}
 use Rattle.fi_math.specs.declared.fimath.Fimath.{Fimath}
 use Rattle.fi_math.specs.Full.{full_product, full_sum}
 use Rattle.fi_math.specs.Made.{Is}
@@ -9,11 +11,14 @@ use Rattle.fi_math.proofs.Inside.{product_inside, sum_inside, difference_inside}
 use Rattle.c_tree.specs.Tree.{Exp}
 use Rattle.lower_scalar.specs.Part.{Part, Operand}
 use Rattle.lower_scalar.specs.Shapes.{quantised_part}
-use Rattle.lower_scalar.specs.Operators.{product_of, Multiplies, sum_of, Adds, difference_of, difference_type, Subtracts, left_part, sum_fitted, difference_fitted, cast_sum_part, cast_difference_part}
+use Rattle.lower_scalar.specs.Operators.{product_of, Multiplies, sum_of, Adds, difference_of, difference_type, Subtracts, left_part, right_part, behind, joined_part, sum_fitted, difference_fitted}
 use Rattle.lower_scalar.proofs.OperatorParts.{multiplied_is_part}
 use Rattle.lower_scalar.proofs.SumParts.{exact_sum_is_part, exact_difference_is_part}
 use Rattle.lower_scalar.proofs.CastSums.{CanTake, cast_sum_is_part, cast_difference_is_part}
 use Rattle.lower_op.specs.Arguments.{joined_at}
+use Rattle.lower_op.specs.Ends.{Joins, fitted}
+use Rattle.lower_op.specs.declared.ends.Additive.{Additive}
+use Rattle.lower_op.specs.declared.ends.Additive.TheVariants.{Sum, Difference}
 
 -- the type of a result, and operands that read lower variables
 pub record Given (t : NumericType) (a b : Operand) (x : ℕ) : Type 0 where
@@ -43,23 +48,30 @@ difference_is m t a b x full wide e p given w rule g k h i =
     subst (λ (q : Part). Subtracts m t a b x q) (sym (same_part m t wide (difference_type (full_sum a.num b.num)) e (difference_of a b) x p (k ∙ ap difference_type g) h i))
     (exact_difference_is_part m t a b x given.one given.most (record { left = given.left.some; right = given.right.some; room = w.bits }) rule given.left.reads given.right.reads)
 
-pub cast_sum_is : (m : Fimath) (t : NumericType) (a b : Operand) (x : ℕ) (l r : Part) (next k : ℕ) (e : Exp) (p : Part) → Given t a b x → m.cast_before_sum ≡ true
-    → l ≡ left_part m t a x → next ≡ x + length l.words → r ≡ left_part m t b next → k ≡ next + length r.words → e ≡ sum_fitted m.overflow t.signed t.word k (suc k) → p ≡ joined_at k t.signed l r e → Adds m t a b x p
-cast_sum_is m t a b x l r next k e p given rule el en er ek ee ep =
-    subst (λ (q : Part). Adds m t a b x q) (sym (ep ∙ same))
-    (cast_sum_is_part m t a b x given.one given.most given.left given.right rule)
-  where
-    same : joined_at k t.signed l r e ≡ cast_sum_part m t a b x
-    same = rw ee (rw ek (rw er (rw en (rw el refl))))
+-- two parts one after the other, as the code numbers their variables
+joined_is : (m : Fimath) (t : NumericType) (a b : Operand) (x : ℕ) (f : ℕ → Exp) (l r : Part) (next k : ℕ) (e : Exp)
+    → l ≡ left_part m t a x → next ≡ x + length l.words → r ≡ left_part m t b next → k ≡ next + length r.words → e ≡ f k
+    → joined_at k t.signed l r e ≡ joined_part x t.signed (left_part m t a x) (right_part m t a b x) (f (behind x (left_part m t a x) (right_part m t a b x)))
+joined_is m t a b x f l r next k e el en er ek ee = rw ee (rw ek (rw er (rw en (rw el refl))))
 
-pub cast_difference_is : (m : Fimath) (t : NumericType) (a b : Operand) (x : ℕ) (l r : Part) (next k : ℕ) (e : Exp) (p : Part) → Given t a b x → m.cast_before_sum ≡ true
-    → l ≡ left_part m t a x → next ≡ x + length l.words → r ≡ left_part m t b next → k ≡ next + length r.words → e ≡ difference_fitted m.overflow t.signed t.word k (suc k) → p ≡ joined_at k t.signed l r e → Subtracts m t a b x p
-cast_difference_is m t a b x l r next k e p given rule el en er ek ee ep =
-    subst (λ (q : Part). Subtracts m t a b x q) (sym (ep ∙ same))
+fitted_sum : (o : Overflow) (s : Bool) (w x y : ℕ) → fitted Sum o s w x y ≡ sum_fitted o s w x y
+fitted_sum Saturate s w x y = refl
+fitted_sum Wrap s w x y = refl
+
+fitted_difference : (o : Overflow) (s : Bool) (w x y : ℕ) → fitted Difference o s w x y ≡ difference_fitted o s w x y
+fitted_difference Saturate s w x y = refl
+fitted_difference Wrap s w x y = refl
+
+pub cast_is : (how : Additive) (m : Fimath) (t : NumericType) (a b : Operand) (x : ℕ) (l r : Part) (next k : ℕ) (e : Exp) (p : Part) → Given t a b x → m.cast_before_sum ≡ true
+    → l ≡ left_part m t a x → next ≡ x + length l.words → r ≡ left_part m t b next → k ≡ next + length r.words → e ≡ fitted how m.overflow t.signed t.word k (suc k) → p ≡ joined_at k t.signed l r e → Joins how m t a b x p
+cast_is Sum m t a b x l r next k e p given rule el en er ek ee ep =
+    subst (λ (q : Part). Adds m t a b x q)
+    (sym (ep ∙ joined_is m t a b x (λ i. sum_fitted m.overflow t.signed t.word i (suc i)) l r next k e el en er ek (ee ∙ fitted_sum m.overflow t.signed t.word k (suc k))))
+    (cast_sum_is_part m t a b x given.one given.most given.left given.right rule)
+cast_is Difference m t a b x l r next k e p given rule el en er ek ee ep =
+    subst (λ (q : Part). Subtracts m t a b x q)
+    (sym (ep ∙ joined_is m t a b x (λ i. difference_fitted m.overflow t.signed t.word i (suc i)) l r next k e el en er ek (ee ∙ fitted_difference m.overflow t.signed t.word k (suc k))))
     (cast_difference_is_part m t a b x given.one given.most given.left given.right rule)
-  where
-    same : joined_at k t.signed l r e ≡ cast_difference_part m t a b x
-    same = rw ee (rw ek (rw er (rw en (rw el refl))))
 
 -- ---- full types within the limits
 

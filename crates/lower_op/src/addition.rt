@@ -9,7 +9,8 @@ ghost use Rattle.lower_scalar.specs.Part.{part_view, reach};
 ghost use Rattle.lower_scalar.specs.Operators.{Adds, Subtracts};
 ghost use Rattle.lower_op.specs.Arguments.{operand};
 
-use crate::casts::{add_cast, subtract_cast};
+use crate::casts::join_cast;
+use crate::ends::Additive;
 use crate::sums::{add_exact, subtract_exact};
 use crate::types::{full_sum, is_same};
 use c_tree::{CExpr, CPart};
@@ -39,7 +40,7 @@ pub fn add(
             let r = add_exact(alloc, m, t, p, a, q, b, fresh)?;
             Ok(r)
         } else {
-            let r = add_cast(alloc, m, t, p, a, q, b, fresh)?;
+            let r = join_cast(alloc, Additive::Sum, m, t, p, a, q, b, fresh)?;
             Ok(r)
         }
     } else {
@@ -66,7 +67,7 @@ pub fn subtract(
     ensures { IfOk result (λ r. Subtracts m (type_of t) (operand p a) (operand q b) fresh (part_view r)) }
 {
     if m.cast_before_sum {
-        let r = subtract_cast(alloc, m, t, p, a, q, b, fresh)?;
+        let r = join_cast(alloc, Additive::Difference, m, t, p, a, q, b, fresh)?;
         Ok(r)
     } else {
         let r = subtract_exact(alloc, m, t, p, a, q, b, fresh)?;

@@ -1,27 +1,27 @@
 //! Sums and differences with CastBeforeSum.
 
-ghost use Rattle.std.specs.Prelude.{◌≡◌, ◌≤◌, ◌+◌, ◌++◌, ◌∷◌, [], ◌^◌, suc, true, length, map, IfOk};
+ghost use Rattle.std.specs.Prelude.{◌≡◌, ◌≤◌, ◌+◌, ◌++◌, ◌∷◌, [], ◌^◌, true, length, map, IfOk};
 ghost use Rattle.num_type.specs.View.{type_of};
-ghost use Rattle.c_tree.specs.Tree.{Set};
 ghost use Rattle.c_tree.specs.View.{expr_view, stmt_view};
 ghost use Rattle.lower_scalar.specs.Part.{part_view, reach};
 ghost use Rattle.lower_scalar.specs.Operators;
-ghost use Rattle.lower_scalar.specs.Operators.{Adds, Subtracts};
 ghost use Rattle.lower_op.specs.Arguments;
 ghost use Rattle.lower_op.specs.Arguments.{operand};
+ghost use Rattle.lower_op.specs.Ends.{Joins};
 
-use crate::ends::{Two, difference_fitted, sum_fitted};
+use crate::ends::{Additive, Two, fitted};
 use c_tree::{CExpr, CPart, CStmt, CWord};
 use fi_math::Fimath;
-use lower_scalar::{quantise_part, word_for};
+use lower_scalar::{quantise_part, two_sets, word_for};
 use num_type::{Memory, NumType};
 use sqlite_items::Items;
 use std::alloc::Global;
 
-/// The part that takes `a` of the type `p` and `b` of the type `q` to the type `t` and adds them there by the overflow action: with
+/// The part that takes `a` of the type `p` and `b` of the type `q` to the type `t` and adds or subtracts there by the overflow action: with
 /// CastBeforeSum. Want of memory is the only refusal.
-pub fn add_cast(
+pub fn join_cast(
     alloc: Global,
+    how: Additive,
     m: Fimath,
     t: NumType,
     p: NumType,
@@ -34,7 +34,7 @@ pub fn add_cast(
     requires rule { m.cast_before_sum ≡ true }
     requires left { reach (expr_view a) ≤ fresh }
     requires right { reach (expr_view b) ≤ fresh }
-    ensures { IfOk result (λ r. Adds m (type_of t) (operand p a) (operand q b) fresh (part_view r)) }
+    ensures { IfOk result (λ r. Joins how m (type_of t) (operand p a) (operand q b) fresh (part_view r)) }
 {
     let both = take_both(alloc, m, t, p, a, q, b, fresh)?;
     let next = behind(fresh, &both.0.words);
@@ -45,48 +45,9 @@ pub fn add_cast(
         x: last,
         y: last + 1,
     };
-    match sum_fitted(alloc, m.overflow, signed, word, v) {
-        Ok(sum) => {
-            let r = join(alloc, signed, both.0, both.1, last, sum)?;
-            Ok(r)
-        }
-        Err(error) => {
-            drop(both);
-            Err(error)
-        }
-    }
-}
-
-/// The part that takes both to the type `t` and subtracts there by the overflow action: with CastBeforeSum. Want of memory is the only
-/// refusal.
-pub fn subtract_cast(
-    alloc: Global,
-    m: Fimath,
-    t: NumType,
-    p: NumType,
-    a: CExpr,
-    q: NumType,
-    b: CExpr,
-    fresh: u32,
-) -> Result<CPart, Memory>
-    requires room { fresh ≤ 2 ^ 31 }
-    requires rule { m.cast_before_sum ≡ true }
-    requires left { reach (expr_view a) ≤ fresh }
-    requires right { reach (expr_view b) ≤ fresh }
-    ensures { IfOk result (λ r. Subtracts m (type_of t) (operand p a) (operand q b) fresh (part_view r)) }
-{
-    let both = take_both(alloc, m, t, p, a, q, b, fresh)?;
-    let next = behind(fresh, &both.0.words);
-    let last = behind(next, &both.1.words);
-    let signed = t.signed();
-    let word = t.word();
-    let v = Two {
-        x: last,
-        y: last + 1,
-    };
-    match difference_fitted(alloc, m.overflow, signed, word, v) {
-        Ok(difference) => {
-            let r = join(alloc, signed, both.0, both.1, last, difference)?;
+    match fitted(alloc, how, m.overflow, signed, word, v) {
+        Ok(value) => {
+            let r = join(alloc, signed, both.0, both.1, last, value)?;
             Ok(r)
         }
         Err(error) => {
@@ -228,36 +189,6 @@ fn join_words(words: Items<CWord>, more: Items<CWord>, word: CWord) -> Result<It
     words.push(word)?;
     words.push(word)?;
     Ok(words)
-}
-
-// Two variables take values.
-pub fn two_sets(
-    alloc: Global,
-    last: u32,
-    first: CExpr,
-    second: CExpr,
-) -> Result<Items<CStmt>, Memory>
-    requires { last ≤ 2 ^ 31 + 2 ^ 30 }
-    ensures { IfOk result (λ r. map stmt_view r ≡ Set last (expr_view first) ∷ Set (suc last) (expr_view second) ∷ []) }
-{
-    let mut pair = Items::new(alloc);
-    match pair.push(c_tree::set(last, first)) {
-        Ok(()) => and_set(pair, last + 1, second),
-        Err(error) => {
-            drop(pair);
-            drop(second);
-            Err(Memory::from(error))
-        }
-    }
-}
-
-// One more variable takes a value.
-pub fn and_set(before: Items<CStmt>, var: u32, value: CExpr) -> Result<Items<CStmt>, Memory>
-    ensures { IfOk result (λ r. map stmt_view r ≡ map stmt_view before ++ (Set var (expr_view value) ∷ [])) }
-{
-    let mut before = before;
-    before.push(c_tree::set(var, value))?;
-    Ok(before)
 }
 
 // The statements of two parts, and then others.

@@ -1,19 +1,17 @@
 //! Comparisons of two real values.
 
-ghost use Rattle.std.specs.Prelude.{◌≡◌, ◌≤◌, ◌+◌, ◌^◌, ◌∷◌, [], map, IfOk};
-ghost use Rattle.c_tree.specs.Tree.{Set};
-ghost use Rattle.c_tree.specs.View.{expr_view, stmt_view};
+ghost use Rattle.std.specs.Prelude.{◌≡◌, ◌≤◌, ◌+◌, ◌^◌, IfOk};
+ghost use Rattle.c_tree.specs.View.{expr_view};
 ghost use Rattle.lower_scalar.specs.Part.{part_view, reach};
 ghost use Rattle.lower_op.specs.Arguments.{operand};
 ghost use Rattle.lower_op.specs.Comparisons.{Compares};
 ghost use Rattle.lower_op.specs.CompareShapes;
 
-use crate::casts::{and_set, two_sets};
 use crate::compared::{compare_floor, compare_words, floor_at};
 use crate::relations::turned;
-use c_tree::{CExpr, CPart, CRel, CStmt};
+use c_tree::{CExpr, CPart, CRel};
 use fi_quant::gap;
-use lower_scalar::word_for;
+use lower_scalar::{three_sets, two_sets, word_for};
 use num_type::{Memory, NumType};
 use sqlite_items::Items;
 use std::alloc::Global;
@@ -199,26 +197,6 @@ fn over_both(
         },
         Err(error) => {
             drop(value);
-            Err(error)
-        }
-    }
-}
-
-// Three variables take values.
-fn three_sets(
-    alloc: Global,
-    first: u32,
-    a: CExpr,
-    b: CExpr,
-    third: CExpr,
-) -> Result<Items<CStmt>, Memory>
-    requires { first ≤ 2 ^ 31 }
-    ensures { IfOk result (λ r. map stmt_view r ≡ Set first (expr_view a) ∷ Set (first + 1) (expr_view b) ∷ Set (first + 2) (expr_view third) ∷ []) }
-{
-    match two_sets(alloc, first, a, b) {
-        Ok(before) => and_set(before, first + 2, third),
-        Err(error) => {
-            drop(third);
             Err(error)
         }
     }

@@ -6,6 +6,7 @@ ghost use Rattle.c_tree.specs.View.{expr_view};
 ghost use Rattle.lower_scalar.specs.Shapes;
 ghost use Rattle.lower_scalar.specs.Operators;
 ghost use Rattle.lower_op.specs.Arguments.{above_end, below_end, bits_pair};
+ghost use Rattle.lower_op.specs.Ends as ends;
 
 use c_tree::{CExpr, COp, CWord};
 use lower_scalar::{
@@ -13,6 +14,15 @@ use lower_scalar::{
 };
 use num_type::{Memory, Overflow};
 use std::alloc::Global;
+
+/// A sum or a difference of two words.
+#[derive(Clone, Copy)]
+pub enum Additive {
+    /// `x + y`
+    Sum,
+    /// `x - y`
+    Difference,
+}
 
 /// Two variables.
 #[derive(Clone, Copy)]
@@ -227,33 +237,38 @@ fn wrap_pair(alloc: Global, op: COp, signed: bool, word: u32, v: Two) -> Result<
     }
 }
 
-/// `x + y` of two words of a type, brought into its range by the action.
-pub fn sum_fitted(
-    alloc: Global,
-    action: Overflow,
-    signed: bool,
-    word: u32,
-    v: Two,
-) -> Result<CExpr, Memory>
+// The sum or the difference, brought to the nearest number of the range.
+fn saturated(alloc: Global, how: Additive, signed: bool, word: u32, v: Two) -> Result<CExpr, Memory>
     requires some { 1 ≤ word }
     requires most { word ≤ 64 }
-    ensures { IfOk result (λ r. expr_view r ≡ Operators.sum_fitted action signed word v.x v.y) }
+    ensures { IfOk result (λ r. expr_view r ≡ ends.saturated how signed word v.x v.y) }
 {
-    match action {
-        Overflow::Saturate => {
+    match how {
+        Additive::Sum => {
             let r = sum_saturated(alloc, signed, word, v)?;
             Ok(r)
         }
-        Overflow::Wrap => {
-            let r = wrap_pair(alloc, COp::Add, signed, word, v)?;
+        Additive::Difference => {
+            let r = difference_saturated(alloc, signed, word, v)?;
             Ok(r)
         }
     }
 }
 
-/// `x - y` of two words of a type, brought into its range by the action.
-pub fn difference_fitted(
+// The operator of C.
+fn operator(how: Additive) -> COp
+    ensures { result ≡ ends.operator how }
+{
+    match how {
+        Additive::Sum => COp::Add,
+        Additive::Difference => COp::Sub,
+    }
+}
+
+/// The sum or the difference of two words of a type, brought into its range by the action.
+pub fn fitted(
     alloc: Global,
+    how: Additive,
     action: Overflow,
     signed: bool,
     word: u32,
@@ -261,15 +276,16 @@ pub fn difference_fitted(
 ) -> Result<CExpr, Memory>
     requires some { 1 ≤ word }
     requires most { word ≤ 64 }
-    ensures { IfOk result (λ r. expr_view r ≡ Operators.difference_fitted action signed word v.x v.y) }
+    ensures { IfOk result (λ r. expr_view r ≡ ends.fitted how action signed word v.x v.y) }
 {
     match action {
         Overflow::Saturate => {
-            let r = difference_saturated(alloc, signed, word, v)?;
+            let r = saturated(alloc, how, signed, word, v)?;
             Ok(r)
         }
         Overflow::Wrap => {
-            let r = wrap_pair(alloc, COp::Sub, signed, word, v)?;
+            let op = operator(how);
+            let r = wrap_pair(alloc, op, signed, word, v)?;
             Ok(r)
         }
     }

@@ -9,7 +9,7 @@ use Rattle.c_tree.specs.Tokens.{sta_tokens}
 use Rattle.c_tree.specs.Depth.{exp_depth, sta_depth, block_depth}
 use Rattle.c_tree.specs.View.{block_of}
 use Rattle.c_tree.specs.WellFormed.{Scope, is_fit, are_fit, type_of_exp}
-use Rattle.c_tree.specs.Outcome.{Outcome, Gives, PastBound, UndefinedAt, ◌>>=◌, bind}
+use Rattle.c_tree.specs.Outcome.{Outcome, Completes, PastBound, UndefinedAt, ◌>>=◌, bind}
 use Rattle.c_tree.specs.Meaning.{Word, State, Flow, Went, Broke, Continued, Returned, run_sta, run_block, then_run, with_word, value}
 use Rattle.lower_scalar.specs.Part.{Part, Operand, Stands, AllStand, IsTyped, word, word_for, kind_of, reach, deepest, AreDeclared, AreInOrder, IsAfter, Does, on_one, on_two}
 use Rattle.lower_scalar.specs.Operators.{behind, joined_part}
@@ -63,21 +63,21 @@ depth_both (x ∷ xs) ys d h g =
 -- ---- runs
 
 -- where the first statements end, the others go on
-run_both : (xs ys : List Sta) (st mid : State) (n at : ℕ) → run_block (block_of xs) n st at ≡ Gives (Went mid) → (to : ℕ) × (run_block (block_of (xs ++ ys)) n st at ≡ run_block (block_of ys) n mid to)
+run_both : (xs ys : List Sta) (st mid : State) (n at : ℕ) → run_block (block_of xs) n st at ≡ Completes (Went mid) → (to : ℕ) × (run_block (block_of (xs ++ ys)) n st at ≡ run_block (block_of ys) n mid to)
 unfolding bind
 run_both [] ys st mid n at h = let e : st ≡ mid = cc in (at, ap (λ s. run_block (block_of ys) n s at) e)
 run_both (x ∷ xs) ys st mid n at h = by (λ s g. run_both xs ys s mid n (at + sta_tokens x) g) (run_sta x n st at) refl h
   where
-    by : ((s : State) → run_block (block_of xs) n s (at + sta_tokens x) ≡ Gives (Went mid) → (to : ℕ) × (run_block (block_of (xs ++ ys)) n s (at + sta_tokens x) ≡ run_block (block_of ys) n mid to)) → (o : Outcome Flow) → run_sta x n st at ≡ o → (o >>= (λ flow. then_run flow (λ s. run_block (block_of xs) n s (at + sta_tokens x)))) ≡ Gives (Went mid)
+    by : ((s : State) → run_block (block_of xs) n s (at + sta_tokens x) ≡ Completes (Went mid) → (to : ℕ) × (run_block (block_of (xs ++ ys)) n s (at + sta_tokens x) ≡ run_block (block_of ys) n mid to)) → (o : Outcome Flow) → run_sta x n st at ≡ o → (o >>= (λ flow. then_run flow (λ s. run_block (block_of xs) n s (at + sta_tokens x)))) ≡ Completes (Went mid)
         → (to : ℕ) × ((run_sta x n st at >>= (λ flow. then_run flow (λ s. run_block (block_of (xs ++ ys)) n s (at + sta_tokens x)))) ≡ run_block (block_of ys) n mid to)
     by rest PastBound e h = absurd (cc)
     by rest (UndefinedAt k) e h = absurd (cc)
-    by rest (Gives (Went s)) e h =
+    by rest (Completes (Went s)) e h =
         let r = rest s h in
         (r.0, ap (λ o. o >>= (λ flow. then_run flow (λ s. run_block (block_of (xs ++ ys)) n s (at + sta_tokens x)))) e ∙ r.1)
-    by rest (Gives (Broke s)) e h = absurd (cc)
-    by rest (Gives (Continued s)) e h = absurd (cc)
-    by rest (Gives (Returned k s)) e h = absurd (cc)
+    by rest (Completes (Broke s)) e h = absurd (cc)
+    by rest (Completes (Continued s)) e h = absurd (cc)
+    by rest (Completes (Returned k s)) e h = absurd (cc)
 
 -- a state behind assignments from a number on agrees below it
 agree_after : (k n : ℕ) (st after : State) → IsAfter k n st after → Agree k after.words st.words

@@ -5,7 +5,7 @@ use Rattle.c_tree.specs.declared.tree.CArray.{CArray}
 use Rattle.c_tree.specs.declared.tree.CArray.TheVariants as array
 use Rattle.c_tree.specs.Tree.{Exp, Signed, Unsigned, Var, Count, Element, Cast, Truth, Neg, Binary, Choose, Test, Compare}
 use Rattle.c_tree.specs.Tokens.{tokens, test_tokens}
-use Rattle.c_tree.specs.Outcome.{Outcome, Gives, ◌>>=◌, bind, choose, when◌then◌else◌, found_at}
+use Rattle.c_tree.specs.Outcome.{Outcome, Completes, ◌>>=◌, bind, choose, when◌then◌else◌, found_at}
 use Rattle.c_tree.specs.Meaning.{Word, Int64, Uint64, Cells, State, value, holds, operated, negated, converted, compared, element, number_of, cells_in, count_in}
 use Rattle.lower_scalar.specs.Part.{reach, test_reach}
 
@@ -28,7 +28,7 @@ mutual
       ap (λ o. found_at (at + 3) o >>= (λ cells. value sub (record st { words = ws }) (at + 5) >>= (λ k. element (at + 4) cells k))) (same_cells st ws array)
       ∙ ap (λ g. found_at (at + 3) (cells_in st array) >>= (λ cells. g >>= (λ k. element (at + 4) cells k))) (same_value sub st ws r h a (at + 5))
   same_value (Cast to e) st ws r h a at = ap (λ g. g >>= (λ w. converted at to w)) (same_value e st ws r h a (at + 3))
-  same_value (Truth t) st ws r h a at = ap (λ g. g >>= (λ b. Gives (Int64 (number_of b)))) (same_holds t st ws r h a (at + 4))
+  same_value (Truth t) st ws r h a at = ap (λ g. g >>= (λ b. Completes (Int64 (number_of b)))) (same_holds t st ws r h a (at + 4))
   same_value (Neg e) st ws r h a at = ap (λ g. g >>= (λ w. negated (at + 1) w)) (same_value e st ws r h a (at + 2))
   same_value (Binary o x y) st ws r h a at =
       ap (λ g. g >>= (λ v. value y (record st { words = ws }) (at + 2 + tokens x) >>= (λ w. operated (at + 1 + tokens x) o v w))) (same_value x st ws r (omega (arith, h)) a (at + 1))

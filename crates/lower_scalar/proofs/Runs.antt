@@ -7,7 +7,7 @@ use Rattle.c_tree.specs.declared.tree.CWord.TheVariants.{I64, U64}
 use Rattle.c_tree.specs.Tree.{Exp, Sta, Set, Block, Done, Next}
 use Rattle.c_tree.specs.Tokens.{sta_tokens}
 use Rattle.c_tree.specs.View.{block_of}
-use Rattle.c_tree.specs.Outcome.{Gives, ◌>>=◌, bind, found_at}
+use Rattle.c_tree.specs.Outcome.{Completes, ◌>>=◌, bind, found_at}
 use Rattle.c_tree.specs.Meaning.{Word, Int64, Uint64, State, Flow, Went, run_block, assigned, with_word, then_run, value}
 use Rattle.c_tree.specs.WellFormed.{Scope, type_of_exp, is_one_type, is_set}
 use Rattle.lower_scalar.specs.Part.{word, word_for, kind_of, AreDeclared, IsAfter}
@@ -19,7 +19,7 @@ pub kind_of_word : (s : Bool) (z : ℤ) → kind_of (word s z) ≡ word_for s
 kind_of_word true z = refl
 kind_of_word false z = refl
 
-assigned_same : (at : ℕ) (old w : Word) → kind_of old ≡ kind_of w → assigned at old w ≡ Gives w
+assigned_same : (at : ℕ) (old w : Word) → kind_of old ≡ kind_of w → assigned at old w ≡ Completes w
 unfolding assigned
 assigned_same at (Int64 x) (Int64 z) e = refl
 assigned_same at (Int64 x) (Uint64 n) e = absurd (cc)
@@ -67,12 +67,12 @@ set_runs : (st : State) (k n at : ℕ) (e : Exp) (w old : Word) → Says e st w 
     → run_block (Next (Set k e) next) n st at ≡ run_block next n (with_word st k w) (at + sta_tokens (Set k e))
 unfolding bind found_at
 set_runs st k n at e w old p here same next =
-    ap (λ g. (g >>= (λ v. found_at at (slice_get st.words k) >>= (λ o. assigned at o v >>= (λ new. Gives (Went (with_word st k new)))))) >>= (λ flow. then_run flow (λ s. run_block next n s (at + sta_tokens (Set k e))))) (p.says (at + 2))
-    ∙ ap (λ o. (found_at at o >>= (λ o. assigned at o w >>= (λ new. Gives (Went (with_word st k new))))) >>= (λ flow. then_run flow (λ s. run_block next n s (at + sta_tokens (Set k e))))) here
-    ∙ ap (λ g. (g >>= (λ new. Gives (Went (with_word st k new)))) >>= (λ flow. then_run flow (λ s. run_block next n s (at + sta_tokens (Set k e))))) (assigned_same at old w same)
+    ap (λ g. (g >>= (λ v. found_at at (slice_get st.words k) >>= (λ o. assigned at o v >>= (λ new. Completes (Went (with_word st k new)))))) >>= (λ flow. then_run flow (λ s. run_block next n s (at + sta_tokens (Set k e))))) (p.says (at + 2))
+    ∙ ap (λ o. (found_at at o >>= (λ o. assigned at o w >>= (λ new. Completes (Went (with_word st k new))))) >>= (λ flow. then_run flow (λ s. run_block next n s (at + sta_tokens (Set k e))))) here
+    ∙ ap (λ g. (g >>= (λ new. Completes (Went (with_word st k new)))) >>= (λ flow. then_run flow (λ s. run_block next n s (at + sta_tokens (Set k e))))) (assigned_same at old w same)
 
 -- the assignments of a part run, whatever stands behind them
-pub run_of : (k : ℕ) (st after : State) (ss : List Sta) (ws : List CWord) → Runs k st ss ws after → AreDeclared k ws (map kind_of st.words) → (n at : ℕ) → run_block (block_of ss) n st at ≡ Gives (Went after)
+pub run_of : (k : ℕ) (st after : State) (ss : List Sta) (ws : List CWord) → Runs k st ss ws after → AreDeclared k ws (map kind_of st.words) → (n at : ℕ) → run_block (block_of ss) n st at ≡ Completes (Went after)
 run_of k st after ss ws Stop d n at = refl
 run_of k st after ss ws (Step {e} {more} {w} {ws = rest} j v same p kind next) d n at =
     let old = get_mapped st.words k w d.0 in

@@ -11,7 +11,7 @@ use Rattle.c_tree.specs.declared.tree.COp.{COp}
 use Rattle.c_tree.specs.declared.tree.COp.TheVariants as op
 use Rattle.c_tree.specs.Tree.{Exp, Signed, Unsigned, Var, Cast, Neg, Binary, Choose, Compare}
 use Rattle.c_tree.specs.Tokens.{tokens, test_tokens}
-use Rattle.c_tree.specs.Outcome.{Gives, UndefinedAt, ◌>>=◌, bind, choose, when◌then◌else◌, found_at}
+use Rattle.c_tree.specs.Outcome.{Completes, UndefinedAt, ◌>>=◌, bind, choose, when◌then◌else◌, found_at}
 use Rattle.c_tree.specs.Meaning.{Word, Int64, Uint64, State, value, holds, operated, converted, negated, compared, related, shifted_right, signed_at, unsigned, fits_signed, wrapped}
 
 -- in the range of int64_t
@@ -21,7 +21,7 @@ pub record IsInt64 (z : ℤ) : Type 0 where
 
 -- the expression gives this word, wherever its tokens begin
 pub record Says (e : Exp) (st : State) (w : Word) : Type 0 where
-  pub says : (at : ℕ) → value e st at ≡ Gives w
+  pub says : (at : ℕ) → value e st at ≡ Completes w
 
 pub mod_small : (n k : ℕ) → n < k → n % k ≡ n
 mod_small n k h = grind arith
@@ -30,12 +30,12 @@ fits_64 : (z : ℤ) → IsInt64 z → fits_signed 64 z ≡ true
 fits_64 (pos n) h = let l : n < 2 ^ 63 = omega (arith, ints, h.most) in grind (arith, ints)
 fits_64 (negsuc n) h = let l : n < 2 ^ 63 = omega (arith, ints, h.least) in grind (arith, ints)
 
-signed_at_is : (at : ℕ) (z : ℤ) → IsInt64 z → signed_at at z ≡ Gives (Int64 z)
+signed_at_is : (at : ℕ) (z : ℤ) → IsInt64 z → signed_at at z ≡ Completes (Int64 z)
 unfolding signed_at choose
-signed_at_is at z h = ap (λ b. when b then Gives (Int64 z) else UndefinedAt at) (fits_64 z h)
+signed_at_is at z h = ap (λ b. when b then Completes (Int64 z) else UndefinedAt at) (fits_64 z h)
 
-unsigned_is : (n : ℕ) → n < 2 ^ 64 → unsigned (pos n) ≡ Gives (Uint64 n)
-unsigned_is n h = ap (λ k. Gives (Uint64 k)) (mod_small n (2 ^ 64) h)
+unsigned_is : (n : ℕ) → n < 2 ^ 64 → unsigned (pos n) ≡ Completes (Uint64 n)
+unsigned_is n h = ap (λ k. Completes (Uint64 k)) (mod_small n (2 ^ 64) h)
 
 -- ---- constants and variables
 
@@ -51,7 +51,7 @@ var_says k st w h = record { says = λ at. ap (found_at at) h }
 
 -- ---- operators
 
-pub binary_says : {a b : Exp} {st : State} (o : COp) (x y w : Word) → ((at : ℕ) → operated at o x y ≡ Gives w) → Says a st x → Says b st y → Says (Binary o a b) st w
+pub binary_says : {a b : Exp} {st : State} (o : COp) (x y w : Word) → ((at : ℕ) → operated at o x y ≡ Completes w) → Says a st x → Says b st y → Says (Binary o a b) st w
 unfolding bind
 binary_says {a} {b} {st} o x y w r p q = record {
   says = λ at.
@@ -94,19 +94,19 @@ product_says m n h p q = binary_says op.Mul (Uint64 m) (Uint64 n) (Uint64 (m * n
 -- the low k bits
 pub low_says : {a : Exp} {st : State} (n k : ℕ) → Says a st (Uint64 n) → Says (Binary op.And a (Unsigned (2 ^ k - 1))) st (Uint64 (n % 2 ^ k))
 unfolding operated
-low_says {a} {st} n k p = binary_says op.And (Uint64 n) (Uint64 (2 ^ k - 1)) (Uint64 (n % 2 ^ k)) (λ at. ap (λ i. Gives (Uint64 i)) (and_mask n k)) p (unsigned_says (2 ^ k - 1) st)
+low_says {a} {st} n k p = binary_says op.And (Uint64 n) (Uint64 (2 ^ k - 1)) (Uint64 (n % 2 ^ k)) (λ at. ap (λ i. Completes (Uint64 i)) (and_mask n k)) p (unsigned_says (2 ^ k - 1) st)
 
 pub shift_says : {a : Exp} {st : State} (n k : ℕ) → k < 64 → Says a st (Int64 (pos n)) → Says (Binary op.Shr a (Unsigned k)) st (Int64 (pos (n / 2 ^ k)))
 unfolding operated shifted_right choose
 shift_says {a} {st} n k h p =
     let t : ltb k 64 ≡ true = lt-ltb k 64 h in
-    binary_says op.Shr (Int64 (pos n)) (Uint64 k) (Int64 (pos (n / 2 ^ k))) (λ at. ap (λ b. when b then Gives (Int64 (pos (n / 2 ^ k))) else UndefinedAt at) t) p (unsigned_says k st)
+    binary_says op.Shr (Int64 (pos n)) (Uint64 k) (Int64 (pos (n / 2 ^ k))) (λ at. ap (λ b. when b then Completes (Int64 (pos (n / 2 ^ k))) else UndefinedAt at) t) p (unsigned_says k st)
 
 pub plain_shift_says : {a : Exp} {st : State} (n k : ℕ) → k < 64 → Says a st (Uint64 n) → Says (Binary op.Shr a (Unsigned k)) st (Uint64 (n / 2 ^ k))
 unfolding operated shifted_right choose
 plain_shift_says {a} {st} n k h p =
     let t : ltb k 64 ≡ true = lt-ltb k 64 h in
-    binary_says op.Shr (Uint64 n) (Uint64 k) (Uint64 (n / 2 ^ k)) (λ at. ap (λ b. when b then Gives (Uint64 (n / 2 ^ k)) else UndefinedAt at) t) p (unsigned_says k st)
+    binary_says op.Shr (Uint64 n) (Uint64 k) (Uint64 (n / 2 ^ k)) (λ at. ap (λ b. when b then Completes (Uint64 (n / 2 ^ k)) else UndefinedAt at) t) p (unsigned_says k st)
 
 -- ---- signs
 
@@ -128,14 +128,14 @@ number_says n h p = record { says = λ at. ap (λ g. g >>= converted at I64) (p.
 
 -- ---- choices
 
-holds_says : {a b : Exp} {st : State} (r : CRel) (x y : Word) (v : Bool) → ((at : ℕ) → compared at r x y ≡ Gives v) → Says a st x → Says b st y → (at : ℕ) → holds (Compare r a b) st at ≡ Gives v
+holds_says : {a b : Exp} {st : State} (r : CRel) (x y : Word) (v : Bool) → ((at : ℕ) → compared at r x y ≡ Completes v) → Says a st x → Says b st y → (at : ℕ) → holds (Compare r a b) st at ≡ Completes v
 unfolding bind
 holds_says {a} {b} {st} r x y v h p q at =
     ap (λ g. g >>= (λ i. value b st (at + 1 + tokens a) >>= (λ j. compared (at + tokens a) r i j))) (p.says at)
     ∙ ap (λ g. g >>= (λ j. compared (at + tokens a) r x j)) (q.says (at + 1 + tokens a))
     ∙ h (at + tokens a)
 
-pub choose_yes : {a b c d : Exp} {st : State} (r : CRel) (x y w : Word) → ((at : ℕ) → compared at r x y ≡ Gives true) → Says a st x → Says b st y → Says c st w → Says (Choose (Compare r a b) c d) st w
+pub choose_yes : {a b c d : Exp} {st : State} (r : CRel) (x y w : Word) → ((at : ℕ) → compared at r x y ≡ Completes true) → Says a st x → Says b st y → Says c st w → Says (Choose (Compare r a b) c d) st w
 unfolding bind choose
 choose_yes {a} {b} {c} {d} {st} r x y w h p q s = record {
   says = λ at.
@@ -143,7 +143,7 @@ choose_yes {a} {b} {c} {d} {st} r x y w h p q s = record {
       ∙ s.says (at + 2 + test_tokens (Compare r a b));
 }
 
-pub choose_no : {a b c d : Exp} {st : State} (r : CRel) (x y w : Word) → ((at : ℕ) → compared at r x y ≡ Gives false) → Says a st x → Says b st y → Says d st w → Says (Choose (Compare r a b) c d) st w
+pub choose_no : {a b c d : Exp} {st : State} (r : CRel) (x y w : Word) → ((at : ℕ) → compared at r x y ≡ Completes false) → Says a st x → Says b st y → Says d st w → Says (Choose (Compare r a b) c d) st w
 unfolding bind choose
 choose_no {a} {b} {c} {d} {st} r x y w h p q s = record {
   says = λ at.
@@ -162,16 +162,16 @@ pub less_says : {a b c d : Exp} {st : State} (x y : ℤ) (w : Word) → Says a s
 unfolding compared
 less_says x y w p q s t =
     by_lt_z x y
-    (λ h. choose_yes Lt (Int64 x) (Int64 y) w (λ at. ap Gives (lt_true x y h)) p q (s h))
-    (λ h. choose_no Lt (Int64 x) (Int64 y) w (λ at. ap Gives (lt_false x y h)) p q (t h))
+    (λ h. choose_yes Lt (Int64 x) (Int64 y) w (λ at. ap Completes (lt_true x y h)) p q (s h))
+    (λ h. choose_no Lt (Int64 x) (Int64 y) w (λ at. ap Completes (lt_false x y h)) p q (t h))
 
 -- the same of uint64_t
 pub below_says : {a b c d : Exp} {st : State} (m n : ℕ) (w : Word) → Says a st (Uint64 m) → Says b st (Uint64 n) → (m < n → Says c st w) → (n ≤ m → Says d st w) → Says (Choose (Compare Lt a b) c d) st w
 unfolding compared
 below_says m n w p q s t =
     by_lt_z (pos m) (pos n)
-    (λ h. choose_yes Lt (Uint64 m) (Uint64 n) w (λ at. ap Gives (lt_true (pos m) (pos n) h)) p q (s (omega (arith, ints, h))))
-    (λ h. choose_no Lt (Uint64 m) (Uint64 n) w (λ at. ap Gives (lt_false (pos m) (pos n) h)) p q (t (omega (arith, ints, h))))
+    (λ h. choose_yes Lt (Uint64 m) (Uint64 n) w (λ at. ap Completes (lt_true (pos m) (pos n) h)) p q (s (omega (arith, ints, h))))
+    (λ h. choose_no Lt (Uint64 m) (Uint64 n) w (λ at. ap Completes (lt_false (pos m) (pos n) h)) p q (t (omega (arith, ints, h))))
 
 -- the difference modulo 2 ^ 64
 pub difference_says : {a b : Exp} {st : State} (m n : ℕ) → Says a st (Uint64 m) → Says b st (Uint64 n) → Says (Binary op.Sub a b) st (Uint64 (wrapped 64 (pos m -ℤ pos n)))

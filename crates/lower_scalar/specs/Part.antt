@@ -11,7 +11,7 @@ use Rattle.c_tree.specs.Tree.{Exp, Signed, Unsigned, Var, Count, Element, Cast, 
 use Rattle.c_tree.specs.View.{expr_view, stmt_view, block_of}
 use Rattle.c_tree.specs.Depth.{exp_depth, block_depth}
 use Rattle.c_tree.specs.WellFormed.{Scope, type_of_exp, are_fit}
-use Rattle.c_tree.specs.Outcome.{Gives}
+use Rattle.c_tree.specs.Outcome.{Completes}
 use Rattle.c_tree.specs.Meaning.{Word, Int64, Uint64, State, Went, value, run_block}
 
 -- ---- words
@@ -80,7 +80,7 @@ pub record Operand : Type 0 where
 -- the operand gives this stored integer of its type
 pub record Stands (st : State) (o : Operand) (z : ℤ) : Type 0 where
   pub in_range : IsInRange o.num z
-  pub gives : (at : ℕ) → value o.exp st at ≡ Gives (word o.num.signed z)
+  pub gives : (at : ℕ) → value o.exp st at ≡ Completes (word o.num.signed z)
 
 -- each operand gives its integer
 abbrev pub AllStand : State → List Operand → List ℤ → Type 0
@@ -109,9 +109,9 @@ pub record IsAfter (fresh count : ℕ) (st after : State) : Type 0 where
 -- the part runs, changes nothing but its own variables, and its expression gives the integer
 pub record Does (fresh : ℕ) (signed : Bool) (z : ℤ) (p : Part) (st : State) : Type 0 where
   pub after : State
-  pub runs : (n at : ℕ) → run_block (block_of p.before) n st at ≡ Gives (Went after)
+  pub runs : (n at : ℕ) → run_block (block_of p.before) n st at ≡ Completes (Went after)
   pub same : IsAfter fresh (length p.words) st after
-  pub gives : (at : ℕ) → value p.value after at ≡ Gives (word signed z)
+  pub gives : (at : ℕ) → value p.value after at ≡ Completes (word signed z)
 
 -- the greatest number of own variables
 abbrev pub own_limit : ℕ

@@ -11,7 +11,7 @@ mod signs;
 
 pub use fits::least;
 pub use numbers::{ones, power, top};
-pub use parts::{alone, over_one};
+pub use parts::{alone, over_one, three_sets, two_sets};
 pub use quantise::{lower_quantise, quantise_part};
 pub use raises::raise;
 pub use rounds::{far_floor, floor_shift, low_bits};

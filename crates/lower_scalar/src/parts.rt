@@ -88,7 +88,7 @@ fn first_set(alloc: Global, var: u32, e: CExpr) -> Result<Items<CStmt>, Memory>
     Ok(before)
 }
 
-// One more.
+// One more statement that sets a variable.
 fn and_set(before: Items<CStmt>, var: u32, e: CExpr) -> Result<Items<CStmt>, Memory>
     ensures { IfOk result (λ it. map stmt_view it ≡ map stmt_view before ++ Set var (expr_view e) ∷ []) }
 {
@@ -97,8 +97,8 @@ fn and_set(before: Items<CStmt>, var: u32, e: CExpr) -> Result<Items<CStmt>, Mem
     Ok(before)
 }
 
-// Two statements that set variables which follow.
-fn two_sets(alloc: Global, var: u32, e: CExpr, second: CExpr) -> Result<Items<CStmt>, Memory>
+/// Two statements that set variables which follow. Want of memory is the only refusal.
+pub fn two_sets(alloc: Global, var: u32, e: CExpr, second: CExpr) -> Result<Items<CStmt>, Memory>
     requires { var ≤ 2 ^ 31 + 2 ^ 30 }
     ensures { IfOk result (λ it. map stmt_view it ≡ Set var (expr_view e) ∷ Set (var + 1) (expr_view second) ∷ []) }
 {
@@ -111,8 +111,8 @@ fn two_sets(alloc: Global, var: u32, e: CExpr, second: CExpr) -> Result<Items<CS
     }
 }
 
-// Three.
-fn three_sets(
+/// Three statements that set variables which follow. Want of memory is the only refusal.
+pub fn three_sets(
     alloc: Global,
     var: u32,
     e: CExpr,

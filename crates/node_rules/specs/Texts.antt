@@ -1,8 +1,6 @@
 -- Types of nodes in shown texts, and what a refusal shows.
 use Rattle.std.specs.Prelude.{ℕ, List, ◌++◌, codes}
 use Rattle.shape_rules.specs.TypeText.{type_text, shape_text, complex_mark}
-use Rattle.mat_ast.specs.declared.tree.BinOp.{BinOp}
-use Rattle.mat_ast.specs.declared.tree.BinOp.TheVariants as bin
 use Rattle.mat_ast.specs.declared.tree.PostOp.{PostOp}
 use Rattle.mat_ast.specs.declared.tree.PostOp.TheVariants as post
 use Rattle.mat_ast.specs.declared.tree.UnOp.{UnOp}
@@ -35,28 +33,6 @@ why_text around (Into t u) = ty_text t ++ codes " into " ++ ty_text u
 why_text around (Said text) = text
 
 -- ---- operators as they are written
-
-unfoldable pub operator_text : BinOp → List ℕ
-operator_text bin.OrOr = codes "||"
-operator_text bin.AndAnd = codes "&&"
-operator_text bin.Or = codes "|"
-operator_text bin.And = codes "&"
-operator_text bin.Eq = codes "=="
-operator_text bin.Ne = codes "~="
-operator_text bin.Lt = codes "<"
-operator_text bin.Le = codes "<="
-operator_text bin.Gt = codes ">"
-operator_text bin.Ge = codes ">="
-operator_text bin.Add = codes "+"
-operator_text bin.Sub = codes "-"
-operator_text bin.Mul = codes "*"
-operator_text bin.ElemMul = codes ".*"
-operator_text bin.Div = codes "/"
-operator_text bin.ElemDiv = codes "./"
-operator_text bin.LeftDiv = codes "\\"
-operator_text bin.ElemLeftDiv = codes ".\\"
-operator_text bin.Pow = codes "^"
-operator_text bin.ElemPow = codes ".^"
 
 unfoldable pub sign_text : UnOp → List ℕ
 sign_text un.Plus = codes "+"

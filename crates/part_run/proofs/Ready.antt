@@ -28,10 +28,10 @@ pair_in_range a b t x y p q = (
   (refl, All-cons (IsWithin (kind_range (Fixed b false) 1)) y [] (q.least, q.most) (All-nil (IsWithin (kind_range (Fixed b false) 1))), tt),
 )
 
-pub ready : (q : Program) (lists : List (List ℤ)) (a b t : NumericType) (p : Part) (x y : ℤ) → q ≡ part_program a b t p → lists ≡ pair x y → IsType a → IsType b → IsType t → IsInRange a x → IsInRange b y → machine.AreInputs (arrays_of q).inputs lists
+pub ready : (q : Program) (lists : List (List ℤ)) (a b t : NumericType) (p : Part) (x y : ℤ) → q ≡ part_program a b t p → lists ≡ pair x y → IsType a → IsType b → IsType t → IsInRange a x → IsInRange b y → machine.FitArrays (arrays_of q).inputs lists
 ready q lists a b t p x y e l wa wb wt hx hy =
-    subst (λ (r : Program). machine.AreInputs (arrays_of r).inputs lists) (sym e)
-    (subst (machine.AreInputs (arrays_of (part_program a b t p)).inputs) (sym l)
+    subst (λ (r : Program). machine.FitArrays (arrays_of r).inputs lists) (sym e)
+    (subst (machine.FitArrays (arrays_of (part_program a b t p)).inputs) (sym l)
     (inputs_fit (part_program a b t p) (pair x y) (interface_fits a b t wa wb wt) (pair_in_range a b t x y hx hy)))
 
 pub has_output : (q : Program) (a b t : NumericType) (p : Part) → q ≡ part_program a b t p → 0 < length (arrays_of q).outputs

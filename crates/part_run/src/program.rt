@@ -50,16 +50,7 @@ fn tree_of(
     let interface = interface_of(alloc, first, second, to)?;
     let words = words_of(alloc, first, second, words)?;
     let body = body_of(alloc, before, value)?;
-    Ok(CTree {
-        interface,
-        arrays: Items::new(alloc),
-        words,
-        groups: 0,
-        barriers: 0,
-        sources: 0,
-        turns: 0,
-        body,
-    })
+    Ok(CTree::plain(alloc, interface, words, body))
 }
 
 // What the program takes and gives.

@@ -4,7 +4,7 @@ use Rattle.std.specs.Prelude.{slice_get, slice_set}
 use Rattle.c_tree.specs.declared.tree.CWord.{CWord}
 use Rattle.c_tree.specs.Tree.{Exp, Sta, Set, Block, Next}
 use Rattle.c_tree.specs.Tokens.{sta_tokens}
-use Rattle.c_tree.specs.Outcome.{Gives, ◌>>=◌, bind, found_at}
+use Rattle.c_tree.specs.Outcome.{Completes, ◌>>=◌, bind, found_at}
 use Rattle.c_tree.specs.Meaning.{Word, Int64, Uint64, State, Went, run_block, assigned, with_word, then_run}
 use Rattle.lower_scalar.specs.Part.{word_for, kind_of}
 use Rattle.scalar_program.specs.Lowered.{Spot, Input, Variable, Literal, Operand, Emitted, and_then}
@@ -46,7 +46,7 @@ runs_both xs ys st mid after p q = record {
       (two.0, ap (λ b. run_block b n st at) (before_append xs ys rest) ∙ one.1 ∙ two.1);
 }
 
-assigned_same : (at : ℕ) (old w : Word) → word_type old ≡ word_type w → assigned at old w ≡ Gives w
+assigned_same : (at : ℕ) (old w : Word) → word_type old ≡ word_type w → assigned at old w ≡ Completes w
 unfolding assigned
 assigned_same at (Int64 x) (Int64 z) e = refl
 assigned_same at (Int64 x) (Uint64 n) e = absurd (cc)
@@ -59,9 +59,9 @@ unfolding bind found_at
 set_runs st k e w old p here same = record {
   does = λ rest n at. (
     at + sta_tokens (Set k e),
-    ap (λ g. (g >>= (λ v. found_at at (slice_get st.words k) >>= (λ o. assigned at o v >>= (λ new. Gives (Went (with_word st k new)))))) >>= (λ flow. then_run flow (λ s. run_block rest n s (at + sta_tokens (Set k e))))) (p.says (at + 2))
-        ∙ ap (λ o. (found_at at o >>= (λ o. assigned at o w >>= (λ new. Gives (Went (with_word st k new))))) >>= (λ flow. then_run flow (λ s. run_block rest n s (at + sta_tokens (Set k e))))) here
-        ∙ ap (λ g. (g >>= (λ new. Gives (Went (with_word st k new)))) >>= (λ flow. then_run flow (λ s. run_block rest n s (at + sta_tokens (Set k e))))) (assigned_same at old w same),
+    ap (λ g. (g >>= (λ v. found_at at (slice_get st.words k) >>= (λ o. assigned at o v >>= (λ new. Completes (Went (with_word st k new)))))) >>= (λ flow. then_run flow (λ s. run_block rest n s (at + sta_tokens (Set k e))))) (p.says (at + 2))
+        ∙ ap (λ o. (found_at at o >>= (λ o. assigned at o w >>= (λ new. Completes (Went (with_word st k new))))) >>= (λ flow. then_run flow (λ s. run_block rest n s (at + sta_tokens (Set k e))))) here
+        ∙ ap (λ g. (g >>= (λ new. Completes (Went (with_word st k new)))) >>= (λ flow. then_run flow (λ s. run_block rest n s (at + sta_tokens (Set k e))))) (assigned_same at old w same),
   );
 }
 

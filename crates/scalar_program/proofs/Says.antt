@@ -4,7 +4,7 @@ use Rattle.std.specs.Prelude.{unsigned_abs, slice_get}
 use Rattle.num_type.specs.Containers.{is_signed_container}
 use Rattle.num_type.specs.Types.{IsWithin}
 use Rattle.c_tree.specs.Tree.{Exp}
-use Rattle.c_tree.specs.Outcome.{Gives, ◌>>=◌, bind, when◌then◌else◌, found_at}
+use Rattle.c_tree.specs.Outcome.{Completes, ◌>>=◌, bind, when◌then◌else◌, found_at}
 use Rattle.c_tree.specs.Meaning.{Word, Int64, Uint64, Cells, State, value, element, loaded}
 use Rattle.lower_scalar.specs.Part.{word}
 use Rattle.fi_rules.specs.Value.{Val, Fi, Number, Words, MathObject, TypeObject, scalar}
@@ -25,7 +25,7 @@ At st (Literal s y) signed z = (s ≡ signed) × (y ≡ z)
 
 -- the expression gives this word, wherever its tokens begin
 pub record Says (e : Exp) (st : State) (w : Word) : Type 0 where
-  pub says : (at : ℕ) → value e st at ≡ Gives w
+  pub says : (at : ℕ) → value e st at ≡ Completes w
 
 pub mod_small : (n k : ℕ) → n < k → n % k ≡ n
 mod_small n k h = grind arith
@@ -37,12 +37,12 @@ spot_says (Variable k) signed w z st r l h = record { says = λ at. ap (found_at
 spot_says (Input k) signed w z st r l h = record {
   says = λ at.
       ap (λ o. found_at (at + 3) o >>= (λ cells. element (at + 4) cells (Int64 (pos 0)))) h.1
-      ∙ ap (λ l. found_at (at + 4) (slice_get l 0) >>= (λ x. Gives (loaded h.0.container x))) h.2
-      ∙ ap (λ b. Gives (if b then Int64 z else Uint64 (unsigned_abs z))) h.3
+      ∙ ap (λ l. found_at (at + 4) (slice_get l 0) >>= (λ x. Completes (loaded h.0.container x))) h.2
+      ∙ ap (λ b. Completes (if b then Int64 z else Uint64 (unsigned_abs z))) h.3
       ∙ as_word signed;
 }
   where
-    as_word : (b : Bool) → Gives (if b then Int64 z else Uint64 (unsigned_abs z)) ≡ Gives (word_z b z)
+    as_word : (b : Bool) → Completes (if b then Int64 z else Uint64 (unsigned_abs z)) ≡ Completes (word_z b z)
     as_word true = refl
     as_word false = refl
 spot_says (Literal s y) signed w z st r l h =

@@ -18,7 +18,7 @@ use Rattle.c_tree.specs.Tree.{Signed, Sta, Store}
 use Rattle.c_tree.specs.Names.{container_for, slot_arrays, input_fronts, output_fronts}
 use Rattle.c_tree.specs.Tokens.{sta_tokens, tokens}
 use Rattle.c_tree.proofs.Containers.{container_sign, container_bits}
-use Rattle.c_tree.specs.Outcome.{Outcome, Gives, ◌>>=◌, bind, choose, found_at, when◌then◌else◌, UndefinedAt}
+use Rattle.c_tree.specs.Outcome.{Outcome, Completes, ◌>>=◌, bind, choose, found_at, when◌then◌else◌, UndefinedAt}
 use Rattle.c_tree.specs.Meaning as Meaning
 use Rattle.c_tree.specs.Meaning.{Word, Cells, State, Flow, Went, value, run_block, kept, stored, with_cells, whole_of, then_run, wrapped, fits_signed}
 use Rattle.c_tree.specs.Run.{filled}
@@ -174,7 +174,7 @@ unwrapped w (pos n) bits le q = let m = pow_mono w bits le in let small : n < 2 
 unwrapped w (negsuc n) bits le q = absurd (no_false q.0)
 
 -- the value in the range of a container stays as it is
-kept_same : (at : ℕ) (s : Bool) (w : ℕ) (z : ℤ) → w ≤ 64 → InRange s w z → kept at (container_for s w) (whole_of (word_z s z)) ≡ Gives z
+kept_same : (at : ℕ) (s : Bool) (w : ℕ) (z : ℤ) → w ≤ 64 → InRange s w z → kept at (container_for s w) (whole_of (word_z s z)) ≡ Completes z
 unfolding kept choose
 kept_same at s w z lim r = by s r (container_sign s w) (container_bits s w lim)
   where
@@ -185,13 +185,13 @@ kept_same at s w z lim r = by s r (container_sign s w) (container_bits s w lim)
         fits bits (pos n) h = grind (arith, ints)
         fits bits (negsuc n) h = let k = h.1 in grind (arith, ints)
 
-    by : (s : Bool) → InRange s w z → is_signed_container (container_for s w) ≡ s → w ≤ bits_of (container_for s w) → kept at (container_for s w) (whole_of (word_z s z)) ≡ Gives z
+    by : (s : Bool) → InRange s w z → is_signed_container (container_for s w) ≡ s → w ≤ bits_of (container_for s w) → kept at (container_for s w) (whole_of (word_z s z)) ≡ Completes z
     by true q sign le =
-        ap (λ b. when b then (when fits_signed (bits_of (container_for true w)) z then Gives z else UndefinedAt at) else Gives (pos (wrapped (bits_of (container_for true w)) z))) sign
-        ∙ ap (λ b. when b then Gives z else UndefinedAt at) (in_bits (bits_of (container_for true w)) z le q)
+        ap (λ b. when b then (when fits_signed (bits_of (container_for true w)) z then Completes z else UndefinedAt at) else Completes (pos (wrapped (bits_of (container_for true w)) z))) sign
+        ∙ ap (λ b. when b then Completes z else UndefinedAt at) (in_bits (bits_of (container_for true w)) z le q)
     by false q sign le =
-        ap (λ b. when b then (when fits_signed (bits_of (container_for false w)) (pos (unsigned_abs z)) then Gives (pos (unsigned_abs z)) else UndefinedAt at) else Gives (pos (wrapped (bits_of (container_for false w)) (pos (unsigned_abs z))))) sign
-        ∙ ap Gives (unwrapped w z (bits_of (container_for false w)) le q)
+        ap (λ b. when b then (when fits_signed (bits_of (container_for false w)) (pos (unsigned_abs z)) then Completes (pos (unsigned_abs z)) else UndefinedAt at) else Completes (pos (wrapped (bits_of (container_for false w)) (pos (unsigned_abs z))))) sign
+        ∙ ap Completes (unwrapped w z (bits_of (container_for false w)) le q)
 
 set_middle : (pre : List Cells) (c d : Cells) (rest : List Cells) → slice_set (pre ++ (c ∷ rest)) (length pre) d ≡ pre ++ (d ∷ rest)
 set_middle [] c d rest = refl
@@ -207,13 +207,13 @@ store_runs st k o z c old h here same one = record {
       let lim : o.num.word ≤ 64 = h.limits.bits in
       let put : ℤ → Outcome Flow = λ y. stored (at + 1) st (array.Output k) c y (Meaning.Int64 (pos 0)) in
       let last : Outcome Flow → Outcome Flow = λ f. f >>= (λ flow. then_run flow (λ t. run_block rest n t (at + sta_tokens s))) in
-      let keep : kept (at + 4 + tokens (Signed 0)) c.container (whole_of w) ≡ Gives z =
+      let keep : kept (at + 4 + tokens (Signed 0)) c.container (whole_of w) ≡ Completes z =
       ap (λ d. kept (at + 4 + tokens (Signed 0)) d (whole_of w)) same ∙ kept_same (at + 4 + tokens (Signed 0)) o.num.signed o.num.word z lim h.range in (
         at + sta_tokens s,
         ap (λ g. last (found_at at g >>= (λ c. value (read o.spot) st (at + 7 + tokens (Signed 0)) >>= (λ w. kept (at + 4 + tokens (Signed 0)) c.container (whole_of w) >>= (λ y. value (Signed 0) st (at + 2) >>= (λ sub. stored (at + 1) st (array.Output k) c y sub)))))) here
             ∙ ap (λ g. last (g >>= (λ w. kept (at + 4 + tokens (Signed 0)) c.container (whole_of w) >>= put))) ((read_says o z st h).says (at + 7 + tokens (Signed 0)))
             ∙ ap (λ g. last (g >>= put)) keep
-            ∙ ap (λ l. last (when nat_lt 0 (length l) then Gives (Went (with_cells st (array.Output k) (record c { items = slice_set l 0 z }))) else UndefinedAt (at + 1))) one,
+            ∙ ap (λ l. last (when nat_lt 0 (length l) then Completes (Went (with_cells st (array.Output k) (record c { items = slice_set l 0 z }))) else UndefinedAt (at + 1))) one,
       );
 }
 

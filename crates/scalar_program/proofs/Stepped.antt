@@ -20,7 +20,7 @@ use Rattle.c_tree.specs.declared.tree.CWord.{CWord}
 use Rattle.c_tree.specs.Tree.{Exp, Sta, Set, Block}
 use Rattle.c_tree.specs.View.{block_of}
 use Rattle.c_tree.specs.Tokens.{sta_tokens}
-use Rattle.c_tree.specs.Outcome.{Outcome, Gives, UndefinedAt, PastBound, ◌>>=◌, bind}
+use Rattle.c_tree.specs.Outcome.{Outcome, Completes, UndefinedAt, PastBound, ◌>>=◌, bind}
 use Rattle.c_tree.specs.Meaning.{State, Flow, Went, Broke, Continued, Returned, run_sta, run_block, then_run, with_word}
 use Rattle.lower_scalar.specs.Part as part
 use Rattle.lower_scalar.specs.Part.{Part, IsPart, IsAfter, Does, AreDeclared, AllStand, word_for, on_one, on_two}
@@ -71,21 +71,21 @@ set_step em t m e z st all rest says range limits typed fits =
 -- ---- parts
 
 -- where the first statements end, the others go on
-front_runs : (xs : List Sta) (rest : Block) (st mid : State) (n at : ℕ) → run_block (block_of xs) n st at ≡ Gives (Went mid) → (to : ℕ) × (run_block (before xs rest) n st at ≡ run_block rest n mid to)
+front_runs : (xs : List Sta) (rest : Block) (st mid : State) (n at : ℕ) → run_block (block_of xs) n st at ≡ Completes (Went mid) → (to : ℕ) × (run_block (before xs rest) n st at ≡ run_block rest n mid to)
 unfolding bind
 front_runs [] rest st mid n at h = let e : st ≡ mid = cc in (at, ap (λ s. run_block rest n s at) e)
 front_runs (x ∷ xs) rest st mid n at h = by (λ s g. front_runs xs rest s mid n (at + sta_tokens x) g) (run_sta x n st at) refl h
   where
-    by : ((s : State) → run_block (block_of xs) n s (at + sta_tokens x) ≡ Gives (Went mid) → (to : ℕ) × (run_block (before xs rest) n s (at + sta_tokens x) ≡ run_block rest n mid to)) → (o : Outcome Flow) → run_sta x n st at ≡ o → (o >>= (λ flow. then_run flow (λ s. run_block (block_of xs) n s (at + sta_tokens x)))) ≡ Gives (Went mid)
+    by : ((s : State) → run_block (block_of xs) n s (at + sta_tokens x) ≡ Completes (Went mid) → (to : ℕ) × (run_block (before xs rest) n s (at + sta_tokens x) ≡ run_block rest n mid to)) → (o : Outcome Flow) → run_sta x n st at ≡ o → (o >>= (λ flow. then_run flow (λ s. run_block (block_of xs) n s (at + sta_tokens x)))) ≡ Completes (Went mid)
         → (to : ℕ) × ((run_sta x n st at >>= (λ flow. then_run flow (λ s. run_block (before xs rest) n s (at + sta_tokens x)))) ≡ run_block rest n mid to)
     by next PastBound e h = absurd (cc)
     by next (UndefinedAt k) e h = absurd (cc)
-    by next (Gives (Went s)) e h =
+    by next (Completes (Went s)) e h =
         let r = next s h in
         (r.0, ap (λ o. o >>= (λ flow. then_run flow (λ s. run_block (before xs rest) n s (at + sta_tokens x)))) e ∙ r.1)
-    by next (Gives (Broke s)) e h = absurd (cc)
-    by next (Gives (Continued s)) e h = absurd (cc)
-    by next (Gives (Returned k s)) e h = absurd (cc)
+    by next (Completes (Broke s)) e h = absurd (cc)
+    by next (Completes (Continued s)) e h = absurd (cc)
+    by next (Completes (Returned k s)) e h = absurd (cc)
 
 -- words that stand behind others have their numbers
 pub declared : (xs ws rest : List CWord) → AreDeclared (length xs) ws ((xs ++ ws) ++ rest)
@@ -113,7 +113,7 @@ part_step em t m p os result zs z st all rest is stand value range limits typed 
     let outputs : d.after.outputs ≡ st.outputs = ap (λ (s : State). s.outputs) d.same.rest in
     let keeps : Keeps n st d.after = record { inputs = inputs; outputs = outputs; words = λ k l. d.same.below k l } in
     let mid : Emitted = record { sets = em.sets ++ p.before; words = em.words ++ p.words } in
-    let says : Says p.value d.after (word_z t.signed z) = record { says = λ at. d.gives at ∙ ap (λ v. Gives (word_z t.signed v)) value } in
+    let says : Says p.value d.after (word_z t.signed z) = record { says = λ at. d.gives at ∙ ap (λ v. Completes (word_z t.signed v)) value } in
     let s = set_step mid t m p.value z d.after all rest says range limits (d.same.types ∙ typed) fits in
     let more : n ≤ length mid.words = omega (arith, length-append em.words p.words) in
     record {

@@ -1,58 +1,16 @@
--- What an opened expression of the code stands for.
-use Rattle.std.proofs.Common.{◌≡◌, ℕ, List, [], ◌∷◌, map, ap, ◌∙◌, sym, Option, Some, None}
-use Rattle.fic_base.specs.declared.place.Place.{Place}
-use Rattle.mat_ast.specs.View.{expr_view, row_view, row_of, args_of, args_view, arg_step, kind_step, expr_step, row_step}
-use Rattle.mat_ast.specs.Tree.{Exp, Row, Apply, Binary, Range, RangeBy, NoArgs, Item, Whole}
-use Rattle.mat_ast.specs.declared.tree.BinOp.{BinOp}
-use Rattle.mat_ast.specs.declared.tree.Arg.{Arg, fold-roll-Arg}
+-- What one argument of the code stands for as all of them.
+use Rattle.std.proofs.Common.{◌≡◌, [], ◌∷◌, ap}
+use Rattle.mat_ast.specs.View.{expr_view, args_of, args_view}
+use Rattle.mat_ast.specs.Tree.{NoArgs, Item, Whole}
+use Rattle.mat_ast.specs.declared.tree.Arg.{Arg}
 use Rattle.mat_ast.specs.declared.tree.Arg.TheVariants as arg
-use Rattle.mat_ast.specs.declared.tree.Arg.TheVariants.{rolls-Item, rolls-All}
-use Rattle.mat_ast.specs.declared.tree.Row as code
-use Rattle.mat_ast.specs.declared.tree.Row.{fold_out-Row, out-Row}
-use Rattle.mat_ast.specs.declared.tree.Expr.{Expr, fold_out-Expr, out-Expr}
-use Rattle.mat_ast.specs.declared.tree.ExprKind.{fold-ExprKind, fold-roll-ExprKind, ExprKind}
-use Rattle.mat_ast.specs.declared.tree.ExprKind.TheVariants as kind
-use Rattle.mat_ast.specs.declared.tree.ExprKind.TheVariants.{rolls-Apply, rolls-Binary, rolls-Range}
-
--- what a kind stands for at a place
-abbrev pub kind_at : ExprKind → Place → Exp
-kind_at = fold-ExprKind (Option Exp) (Place → Exp) Exp Row arg_step kind_step expr_step row_step
-
-opened : (e : Expr) (k : ExprKind) → (out-Expr e).kind ≡ k → expr_view e ≡ kind_at k (out-Expr e).place
-opened e k h = fold_out-Expr (Option Exp) (Place → Exp) Exp Row arg_step kind_step expr_step row_step e ∙ ap (λ (k : ExprKind). kind_at k (out-Expr e).place) h
-
-pub binary_view : (e : Expr) (o : BinOp) (a b : Expr) → (out-Expr e).kind ≡ kind.Binary o a b → expr_view e ≡ Binary (out-Expr e).place o (expr_view a) (expr_view b)
-binary_view e o a b h =
-    opened e (kind.Binary o a b) h ∙ ap (λ (k : ExprKind). kind_at k (out-Expr e).place) (sym (rolls-Binary o a b))
-    ∙ ap (λ f. f (out-Expr e).place) (fold-roll-ExprKind (Option Exp) (Place → Exp) Exp Row arg_step kind_step expr_step row_step _)
-
-pub apply_view : (e : Expr) (name : List ℕ) (opens : Place) (args : List Arg) → (out-Expr e).kind ≡ kind.Apply name opens args → expr_view e ≡ Apply (out-Expr e).place name opens (args_view args)
-apply_view e name opens args h =
-    opened e (kind.Apply name opens args) h ∙ ap (λ (k : ExprKind). kind_at k (out-Expr e).place) (sym (rolls-Apply name opens args))
-    ∙ ap (λ f. f (out-Expr e).place) (fold-roll-ExprKind (Option Exp) (Place → Exp) Exp Row arg_step kind_step expr_step row_step _)
-
-pub range_view : (e first last : Expr) → (out-Expr e).kind ≡ kind.Range first None last → expr_view e ≡ Range (out-Expr e).place (expr_view first) (expr_view last)
-range_view e first last h =
-    opened e (kind.Range first None last) h ∙ ap (λ (k : ExprKind). kind_at k (out-Expr e).place) (sym (rolls-Range first None last))
-    ∙ ap (λ f. f (out-Expr e).place) (fold-roll-ExprKind (Option Exp) (Place → Exp) Exp Row arg_step kind_step expr_step row_step _)
-
-pub range_by_view : (e first step last : Expr) → (out-Expr e).kind ≡ kind.Range first (Some step) last → expr_view e ≡ RangeBy (out-Expr e).place (expr_view first) (expr_view step) (expr_view last)
-range_by_view e first step last h =
-    opened e (kind.Range first (Some step) last) h ∙ ap (λ (k : ExprKind). kind_at k (out-Expr e).place) (sym (rolls-Range first (Some step) last))
-    ∙ ap (λ f. f (out-Expr e).place) (fold-roll-ExprKind (Option Exp) (Place → Exp) Exp Row arg_step kind_step expr_step row_step _)
-
--- a row by its elements
-pub cells_view : (r : code.Row) → row_view r ≡ row_of (map expr_view (out-Row r).cells)
-cells_view r = fold_out-Row (Option Exp) (Place → Exp) Exp Row arg_step kind_step expr_step row_step r
+use Rattle.mat_ast.specs.declared.tree.Expr.{Expr}
+use Rattle.walk_scope.proofs.Opened.{item_is, all_is}
 
 -- an expression alone as the arguments
 pub item_view : (a : Arg) (e : Expr) → a ≡ arg.Item e → args_view (a ∷ []) ≡ Item (expr_view e) NoArgs
-item_view a e h =
-    ap (λ (x : Arg). args_view (x ∷ [])) (h ∙ sym (rolls-Item e))
-    ∙ ap (λ o. args_of (o ∷ [])) (fold-roll-Arg (Option Exp) (Place → Exp) Exp Row arg_step kind_step expr_step row_step _)
+item_view a e h = ap (λ o. args_of (o ∷ [])) (item_is a e h)
 
 -- all of a dimension alone as the subscripts
 pub all_view : (a : Arg) → a ≡ arg.All → args_view (a ∷ []) ≡ Whole NoArgs
-all_view a h =
-    ap (λ (x : Arg). args_view (x ∷ [])) (h ∙ sym rolls-All)
-    ∙ ap (λ o. args_of (o ∷ [])) (fold-roll-Arg (Option Exp) (Place → Exp) Exp Row arg_step kind_step expr_step row_step _)
+all_view a h = ap (λ o. args_of (o ∷ [])) (all_is a h)

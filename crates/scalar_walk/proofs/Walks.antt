@@ -21,7 +21,8 @@ use Rattle.fi_rules.specs.Pairs.{work_of}
 use Rattle.fi_rules.specs.Types.{Ty, OtherTy}
 use Rattle.walk_scope.specs.View.{Tells, StopTells}
 use Rattle.walk_scope.proofs.Tell.{err_tells, part_tells, next_tells, passed}
-use Rattle.scalar_walk.proofs.Views.{range_view, range_by_view, item_view, all_view}
+use Rattle.walk_scope.proofs.Opened.{range_view, range_by_view}
+use Rattle.scalar_walk.proofs.Views.{item_view, all_view}
 
 -- a part refused in a bind refuses the whole
 pub part_stops : {A B : Type 0} (s : Stop Refusal) (told : Told A) (next : A → Told B) → StopTells s told → StopTells s (bind told next)

@@ -155,16 +155,7 @@ fn assemble(
     let mut body = sets;
     put_stores(alloc, outputs, &mut body)?;
     body.push(c_tree::give_back(0))?;
-    Ok(CTree {
-        interface,
-        arrays: Items::new(alloc),
-        words,
-        groups: 0,
-        barriers: 0,
-        sources: 0,
-        turns: 0,
-        body,
-    })
+    Ok(CTree::plain(alloc, interface, words, body))
 }
 
 // The types of operands.

@@ -3,3 +3,4 @@ pub mod Lefts
 pub mod Entries
 pub mod Tables
 pub mod Checks
+pub mod Opened

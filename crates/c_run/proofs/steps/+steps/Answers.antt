@@ -2,7 +2,7 @@ use Rattle.std.proofs.Common.{◌≡◌, ℕ, suc, ◌+◌, ◌-◌, ◌<◌, �
 use Rattle.c_tree.specs.View.{test_view, stmt_view, block_view}
 use Rattle.c_tree.specs.Tokens.{test_tokens, sta_tokens, block_tokens}
 use Rattle.c_run.specs.Over.{sta_over, block_over}
-use Rattle.c_tree.specs.Outcome.{Outcome, Gives}
+use Rattle.c_tree.specs.Outcome.{Outcome, Completes}
 use Rattle.c_tree.specs.Meaning as meaning
 use Rattle.c_tree.specs.Meaning.{State, with_count, holds, run_block, for_turns, while_turns}
 use Rattle.c_run.specs.View.{flow_told, left_or}
@@ -39,7 +39,7 @@ pub while_turns-returns-in-Ok-false-clause-told : goal.while_turns-returns-in-Ok
 while_turns-returns-in-Ok-false-clause-told t c =
     let test : State → Outcome Bool = λ st. holds (test_view c.args.test.now) st (c.args.at + 2) in
     let body : State → Outcome meaning.Flow = λ st. run_block (block_view c.args.body.now) c.args.bound st (c.args.at + 4 + test_tokens (test_view c.args.test.now)) in
-    while_ends c.loop-left.left test body c.loop-left.frame (ap Gives (sym c.in-Ok-false.field-0-test) ∙ c.in-Ok-false.ensures) ∙ sym c.loop-left.invariant.same
+    while_ends c.loop-left.left test body c.loop-left.frame (ap Completes (sym c.in-Ok-false.field-0-test) ∙ c.in-Ok-false.ensures) ∙ sym c.loop-left.invariant.same
 
 pub while_turns-returns-in-Some-clause-told : goal.while_turns-returns-in-Some-clause-told
 while_turns-returns-in-Some-clause-told t c =
@@ -49,7 +49,7 @@ while_turns-returns-in-Some-clause-told t c =
     let el : l ≡ suc (l - 1) = omega (arith, c.loop-left-test.true) in
     sym (c.loop-left.invariant.same
     ∙ while_turn l (l - 1) test body c.loop-left.frame c.block.new.frame c.block.result c.after_turn.result
-    el (ap Gives (sym c.in-Ok-true.field-0-test) ∙ c.in-Ok-true.ensures)
+    el (ap Completes (sym c.in-Ok-true.field-0-test) ∙ c.in-Ok-true.ensures)
     (c.block.ensures.told ∙ ap (λ n. run_block (block_view c.args.body.now) c.args.bound c.loop-left.frame (c.args.at + 4 + n)) c.test_tokens.ensures) (c.after_turn.ensures c.block.new.frame)
     ∙ ap (λ o. left_or o (while_turns (l - 1) test body) c.block.new.frame) c.in-Some.is)
 
@@ -105,7 +105,7 @@ while_turns-loop-left-preserved t c =
       same =
           c.loop-left.invariant.same
           ∙ while_turn l (l - 1) test body c.loop-left.frame c.block.new.frame c.block.result c.after_turn.result
-          el (ap Gives (sym c.in-Ok-true.field-0-test) ∙ c.in-Ok-true.ensures)
+          el (ap Completes (sym c.in-Ok-true.field-0-test) ∙ c.in-Ok-true.ensures)
           (c.block.ensures.told ∙ ap (λ n. run_block (block_view c.args.body.now) c.args.bound c.loop-left.frame (c.args.at + 4 + n)) c.test_tokens.ensures) (c.after_turn.ensures c.block.new.frame)
           ∙ ap (λ o. left_or o (while_turns (l - 1) test body) c.block.new.frame) c.in-None.is;
       shaped = c.block.ensures.shaped ∙ c.loop-left.invariant.shaped;

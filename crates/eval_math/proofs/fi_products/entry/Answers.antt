@@ -10,7 +10,7 @@ use Rattle.fi_values.specs.Sums.{column_places, row_places}
 use Rattle.eval_value.specs.View.{shape_view}
 use Rattle.eval_math.specs.View.{IsMet, operand_view, parts_view}
 use Rattle.eval_math.specs.declared.frame.Frame.{Frame}
-use Rattle.eval_math.specs.declared.operation.Operation.TheVariants as operation
+use Rattle.const_eval.specs.declared.element_op.ElementOp.TheVariants as operation
 use Rattle.eval_math.proofs.Accumulated.{entry_is, framed_parts, framed_type}
 use Rattle.eval_math.proofs.Matrix.{column_long, row_long}
 use Rattle.eval_math.proofs.fi_products.entry.Goals as goal

@@ -16,7 +16,7 @@ use Rattle.walk_scope.specs.Rules.{around_one}
 use Rattle.walk_scope.specs.View.{Tells, scope_view}
 use Rattle.scalar_walk.specs.View.{names_view, emitted_view, low_view, types_view, around_view, typed_view, types_passed, passed_view, spot_view}
 use Rattle.scalar_walk.proofs.Lows.{binary_low, sign_low, call_low}
-use Rattle.scalar_walk.proofs.Views.{apply_view, binary_view, cells_view}
+use Rattle.walk_scope.proofs.Opened.{apply_view, binary_view, cells_view}
 use Rattle.walk_scope.proofs.Lefts.{left_at, left_none}
 use Rattle.walk_scope.proofs.Tell.{is_told, part_tells, next_tells, passed}
 use Rattle.scalar_walk.proofs.Passed.{no_colon, args_low, item_low, colon_there, under_more, under_with, literal_under, types_more, passed_more, kept_low}

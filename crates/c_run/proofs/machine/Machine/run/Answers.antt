@@ -5,7 +5,7 @@ use Rattle.c_tree.specs.Names.{arrays_of}
 use Rattle.c_tree.specs.Tokens.{body_token, closing_token}
 use Rattle.c_tree.specs.Run.{zero_word}
 use Rattle.c_run.specs.Shape.{program_shape}
-use Rattle.c_run.specs.Fit.{AreInputs}
+use Rattle.c_run.specs.Fit.{FitArrays}
 use Rattle.std.proofs.lemmas.List.{length-map}
 use Rattle.c_tree.specs.Whole.{program_of}
 use Rattle.c_run.proofs.Limits.{none_over}
@@ -25,7 +25,7 @@ pub run_tree-requires-clause-within : goal.run_tree-requires-clause-within
 run_tree-requires-clause-within c = none_over (program_view c.tree-tree.result.now) c.tree-tree.ensures.well_formed
 
 pub run_tree-requires-clause-inputs : goal.run_tree-requires-clause-inputs
-run_tree-requires-clause-inputs c = subst (λ (t : CTree). AreInputs (arrays_of (program_view t)).inputs (map vec_items c.args.inputs.now)) (sym c.tree-tree.ensures.value) c.requires
+run_tree-requires-clause-inputs c = subst (λ (t : CTree). FitArrays (arrays_of (program_view t)).inputs (map vec_items c.args.inputs.now)) (sym c.tree-tree.ensures.value) c.requires
 
 pub returns-clause-count : goal.returns-clause-count
 returns-clause-count c =
