@@ -22,12 +22,18 @@ def main():
     count, first, command = int(sys.argv[1]), int(sys.argv[2]), sys.argv[3:]
     program = None if command == ['-'] else subprocess.Popen(command, stdin=subprocess.PIPE)
     stream = sys.stdout.buffer if program is None else program.stdin
-    with multiprocessing.Pool(2) as pool:
-        for text in pool.imap(made, range(first, first + count), 16):
-            stream.write(text.encode('ascii'))
+    try:
+        with multiprocessing.Pool(2) as pool:
+            for text in pool.imap(made, range(first, first + count), 16):
+                stream.write(text.encode('ascii'))
+    except BrokenPipeError:
+        pass
     if program is None:
         return 0
-    program.stdin.close()
+    try:
+        program.stdin.close()
+    except BrokenPipeError:
+        pass
     return program.wait()
 
 

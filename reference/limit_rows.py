@@ -48,6 +48,46 @@ def elements_in_all():
            ('p = two(-v);', 'refused 254:5 E20 1048576')])
 
 
+def elements_beside_other_conditions():
+    table('4,096 elements beside other conditions',
+          ['function y = f(w, t, s)', 'y = s;', "F = setfimath(t, fimath('OverflowAction','Wrap'));",
+           "G = setfimath(t, fimath('RoundingMethod','Floor'));", 'x = @;', 'end'], 's64.0:65x1 s8.0:65x1 s8.0',
+          [("w*w'", 'refused 5:6 E20 4096'),
+           ("w*t'", 'refused 5:6 E20 4096'),
+           ("t*t'", 'refused 5:6 E20 4096'),
+           ("F*G'", 'refused 5:6 E20 4096'),
+           ('t*(129*ones(1,65))', 'refused 5:6 E16 *'),
+           ('(ones(65,1)*2^400)*(ones(1,65)*2^53)', 'refused 5:23 E16 *'),
+           ('ones(65,1)*ones(1,65)', 'refused 5:15 E20 4096'),
+           ('ones(65,1)*ones(2,65)', 'refused 5:15 E11 65x1 with 2x65'),
+           ('ones(64,1)*ones(1,64)', 'typed number:64x64'),
+           ('w*1', 'refused 5:6 E14 128'),
+           ("w'*w", 'refused 5:7 E14 128'),
+           ("t'*t", 'typed s23.0:1x1')])
+    lines = ['function y = f(v, w)', "p = setfimath(w, fimath('OverflowAction','Wrap'));",
+             "q = setfimath(w, fimath('RoundingMethod','Floor'));"] + ['x = v;'] * 250 + ['y = @;', 'end']
+    # 254 nodes of 4,096 elements stand before line 254
+    table('1,048,576 elements beside other conditions', lines, 's64.0:1x4096 s8.0:1x4096',
+          [('v .* v', 'refused 254:7 E20 1048576'),
+           ('p + q', 'refused 254:7 E20 1048576'),
+           ('p + p', 'refused 254:7 E20 1048576'),
+           ('(w)*129', 'refused 254:8 E16 129'),
+           ('(w) < 1i', 'refused 254:9 E21 <'),
+           ("(w) + 'x'", 'refused 254:9 E18 +'),
+           ('(w) + true', 'refused 254:9 E08 +'),
+           ('(w)/2', 'refused 254:8 E09 /'),
+           ('(w)^2', 'refused 254:8 E19 ^'),
+           ('~(w)', 'refused 254:5 E18 ~'),
+           ("(w)'", 'refused 254:8 E20 1048576'),
+           ('abs((w))', 'refused 254:5 E20 1048576'),
+           ('abs((w), 1)', 'refused 254:5 E05 2 for 1'),
+           ('fi((w), 1, 65, 0)', 'refused 254:5 E20 1048576'),
+           ('fi((w), 1, 8, 300)', 'refused 254:5 E20 1048576'),
+           ('fi((w), 2, 8, 0)', 'refused 254:5 E18 fi'),
+           ('sum((w))', 'typed s20.0:1x1'),
+           ('w(:)', 'typed s8.0:4096x1')])
+
+
 def nodes():
     """A level's body has ten calls of the level below, each with its argument and itself: 1, 30, 320, 3220, 32220 nodes."""
     levels = ['function r = n0(p)', 'r = p;', 'end']
@@ -164,13 +204,37 @@ def depth_of_the_tree():
         print('| function y = f(a)\n| y = %s;\n| end\nentry f\ntypes s8.0\n%s\n' % ('n' * length, outcome))
 
 
+def depth_by_kind():
+    """A leaf is 1 deep, and every node and statement is 1 deeper than its deepest part: an assignment, 98 nodes and a leaf."""
+    table('the depth of an expression', ['function y = f(a)', 'y = a;', 'x = @;', 'end'], 's8.0',
+          [('-' * 98 + 'a', 'typed s8.0:1x1'), ('-' * 99 + 'a', 'refused 3:103 E20 100'),
+           ('|'.join(['true'] * 99), 'typed b:1x1'), ('|'.join(['true'] * 100), 'refused 3:499 E20 100'),
+           ('a' + "'" * 98, 'typed s8.0:1x1'), ('a' + "'" * 99, 'refused 3:104 E20 100'),
+           ('abs(' * 98 + 'a' + ')' * 98, 'typed s8.0:1x1'), ('abs(' * 99 + 'a' + ')' * 99, 'refused 3:401 E20 100'),
+           ('abs(' * 99 + ':' + ')' * 99, 'refused 3:397 E18 abs'),
+           ('[' * 98 + 'a' + ']' * 98, 'typed s8.0:1x1'), ('[' * 99 + 'a' + ']' * 99, 'refused 3:104 E20 100'),
+           ('[' * 99 + ']' * 99, 'refused 3:103 E12 ['),
+           ('(' * 98 + 'a' + ')' * 98, 'typed s8.0:1x1'), ('(' * 99 + 'a' + ')' * 99, 'refused 3:103 E20 100'),
+           ('2' + '^1' * 98, 'typed number:1x1'), ('2' + '^1' * 99, 'refused 3:202 E20 100'),
+           ('2^' + '-' * 97 + '1', 'typed number:1x1'), ('2^' + '-' * 98 + '1', 'refused 3:104 E20 100')])
+    table('the depth of a statement', ['function y = f(a)', 'y = a;', '@', 'end'], 's8.0',
+          [('while true, ' * 99 + 'break, ' + 'end, ' * 98 + 'end', 'typed b:1x1'),
+           ('while true, ' * 100 + 'break, ' + 'end, ' * 99 + 'end', 'refused 3:1189 E20 100'),
+           ('if a > 0, ' * 98 + 'y = a; ' + 'end, ' * 97 + 'end', 'typed s8.0:1x1'),
+           ('if a > 0, ' * 99 + 'y = a; ' + 'end, ' * 98 + 'end', 'refused 3:986 E20 100'),
+           ('if true, ' * 98 + 'y = a; ' + 'end, ' * 97 + 'end', 'typed s8.0:1x1'),
+           ('if true, ' * 99 + 'y = a; ' + 'end, ' * 98 + 'end', 'refused 3:892 E20 100')])
+
+
 def main():
     print('# Written by limit_rows.py, where the outcomes stand as they were worked out by hand.\n')
     elements_in_all()
+    elements_beside_other_conditions()
     nodes()
     call_depth()
     nesting()
     depth_of_the_tree()
+    depth_by_kind()
 
 
 if __name__ == '__main__':

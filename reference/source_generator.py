@@ -63,6 +63,8 @@ class Function:
 
 
 class Generator:
+    kept = KEPT
+
     def __init__(self, seed):
         self.random = random.Random(seed)
         self.functions = []
@@ -247,17 +249,33 @@ class Generator:
             function.body = ['%s = %s;' % (output, self.pick(function.inputs) if function.inputs else 'fi(1,1,8,0)')
                              for output in function.outputs]
             self.functions.append(function)
+        for local in LOCALS:
+            if self.chance(0.4):
+                self.try_at(entry.body, len(entry.body), '%s = %s;' % (local, self.start()))
         for _ in range(steps):
             self.scope = self.pick([entry, self.pick(self.functions)])
             block = self.pick(list(self.scope.blocks()))
             position = self.random.randint(0, len(block)) if self.chance(0.4) else len(block)
-            block.insert(position, self.statement())
-            refused = self.refusal()
-            if refused is not None:
-                if self.chance(KEPT[refused.code]):
-                    break
-                del block[position]
+            if not self.try_at(block, position, self.statement()):
+                break
         return self.row(name)
+
+    def start(self):
+        """A first value of a local variable, so that names hold values of all classes."""
+        name = self.pick(self.functions[0].inputs)
+        return self.pick(('setfimath(%s, %s)' % (name, self.fimath()), 'setfimath(%s, %s)' % (name, self.fimath()),
+                          '[%s, %s]' % (name, name), '%s > 0' % name, "%s'" % name, self.pick(LITERALS), '[1 2 3]',
+                          self.fimath(), 'numerictype(%s)' % name, 'complex(%s, %s)' % (name, name)))
+
+    def try_at(self, block, position, statement):
+        """Puts a statement in where the walk then accepts the source; False where it is refused and kept."""
+        block.insert(position, statement)
+        refused = self.refusal()
+        if refused is not None:
+            if self.chance(self.kept[refused.code]):
+                return False
+            del block[position]
+        return True
 
 
 def random_row(seed, steps=None):
@@ -268,6 +286,7 @@ def random_row(seed, steps=None):
 class ControlGenerator(Generator):
     """Sources of one type whose statements are choices, loops, jumps, and copies between names."""
     NAMES = ('x', 'z', 't')
+    kept = {'E07': 0.08, 'E18': 0.01, 'E22': 0.05, 'E06': 0.1}
 
     def statement(self):
         kind = self.random.random()
@@ -305,12 +324,8 @@ class ControlGenerator(Generator):
             block = self.pick(list(entry.blocks()))
             last = len(block) - 3 if block is entry.body else len(block)
             position = self.random.randint(2 if block is entry.body else 0, last)
-            block.insert(position, self.statement())
-            refused = self.refusal()
-            if refused is not None:
-                if self.chance({'E07': 0.08, 'E18': 0.01, 'E22': 0.05}.get(refused.code, 0.1)):
-                    break
-                del block[position]
+            if not self.try_at(block, position, self.statement()):
+                break
         return self.row(name)
 
 

@@ -152,6 +152,10 @@ def statements(tables):
     bounds = ['for j = %s, y = a; end' % text for sample in SAMPLES + ('q', '0.5', '3', '-3', '2^31', '2^31-1')
               for text in (sample + ':3', '1:' + sample, '1:%s:3' % sample, sample, '(1:%s)' % sample)]
     tables.statements('ranges of a loop', bounds)
+    bounds = ('k', 'a', 'p', "'x'", 'F', '0.5', '2', 'v', 'i')
+    tables.statements('ranges of a loop with two bounds',
+                      ['for j = %s:%s, y = a; end' % (one, two) for one in bounds for two in bounds])
+    tables.values('ranges as values with two bounds', ['%s:%s' % (one, two) for one in bounds for two in bounds])
     tables.statements('names of a loop', ['for %s = 1:3, y = a; end' % name for name in
                                           ('k', 'j', 'a', 'y', 'n', 'l', 'F', 'abs', 'f', 'sqrt')])
     tables.statements('names of a loop that takes no item or too many',
