@@ -48,6 +48,29 @@ def elements_in_all():
            ('p = two(-v);', 'refused 254:5 E20 1048576')])
 
 
+def elements_at_every_kind_of_node():
+    table('256 reads of 4,096 elements, and then any array',
+          ['function y = f(v)', 'y = v;'] + ['x = v;'] * 255 + ['z = @;', 'end'], 's8.0:1x4096',
+          [('[1 1]', 'refused 258:5 E20 1048576'),
+           ('zeros(1,2)', 'refused 258:5 E20 1048576'),
+           ('1:2', 'refused 258:6 E20 1048576'),
+           ('v', 'refused 258:5 E20 1048576'),
+           ('v(:)', 'refused 258:5 E20 1048576'),
+           ('v(1)', 'typed s8.0:1x1'),
+           ('v([1 1])', 'refused 258:7 E20 1048576'),
+           ('[1]', 'typed number:1x1'),
+           ('sum(v)', 'refused 258:9 E20 1048576'),
+           ('numel(v)', 'refused 258:11 E20 1048576'),
+           ('v(1) > 0', 'typed b:1x1'),
+           ('[1 2] == 1', 'refused 258:5 E20 1048576'),
+           ('zeros(1,4097)', 'refused 258:5 E20 4096'),
+           ('1:4097', 'refused 258:6 E20 4096'),
+           ('q', 'refused 258:5 E06 q'),
+           ('[1 q]', 'refused 258:8 E06 q'),
+           ("[1 'x']", 'refused 258:5 E18 ['),
+           ('2:1', 'refused 258:6 E12 :')])
+
+
 def elements_beside_other_conditions():
     table('4,096 elements beside other conditions',
           ['function y = f(w, t, s)', 'y = s;', "F = setfimath(t, fimath('OverflowAction','Wrap'));",
@@ -229,6 +252,7 @@ def depth_by_kind():
 def main():
     print('# Written by limit_rows.py, where the outcomes stand as they were worked out by hand.\n')
     elements_in_all()
+    elements_at_every_kind_of_node()
     elements_beside_other_conditions()
     nodes()
     call_depth()
