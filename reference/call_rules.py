@@ -3,7 +3,7 @@ import constants
 import fixed_point
 from constants import SHAPE_ONE, elements_of
 from fixed_point import NumericType
-from node_types import Fi, FimathObject, Index, Logical, Number, NumericTypeObject, Text, is_complex, is_object, shape_of
+from node_types import (Fi, FimathObject, Logical, Number, NumericTypeObject, Text, is_complex, is_object, shape_of)
 from operator_rules import govern, made, meet, shapes_text
 
 UNSUPPORTED = frozenset('''single double int8 int16 int32 int64 uint8 uint16 uint32 uint64 logical bitshift bitget

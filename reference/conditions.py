@@ -3,8 +3,7 @@ from source_tokens import Refused
 
 ORDER = ('E06', 'E07', 'E19', 'E09', 'E17', 'E05', 'E18', 'E08', 'E21', 'E22', 'E16', 'E11', 'E12', 'E20', 'E13',
          'E14', 'E15', 'E10')
-# The types that a node makes are tested in the order in which they are made, so that a word length and a fraction
-# length of different types have no order of codes between them: only the first type out of its limits is added.
+# Of the types that a node makes only the first one out of its limits is told, so that E14 and E15 never miss together.
 RANK = {code: rank for rank, code in enumerate(ORDER)}
 
 

@@ -7,9 +7,7 @@ from constants import SHAPE_ONE, Constant, NotConstant, element, elements_of
 from fixed_point import OutOfLimits
 from node_types import FimathObject, NumericTypeObject, Text
 from source_tokens import START
-from source_tree import (Apply, Assign, Binary, Break, Continue, End, For, If, Matrix, Multi, Name, Parenthesis, Range,
-                         Store, Transpose, Unary, While, Words, parse)
-from source_tree import Number as NumberLeaf
+from source_tree import Apply, Name, Range, parse
 from value_calls import Argument
 from values import FiValue, LogicalValue, NoRule, require
 

@@ -36,8 +36,8 @@ def elements_in_all():
            ("sum(v) + sum(v')", 'refused 257:18 E20 1048576'),
            ('numel(v) + numel(v)', 'refused 257:22 E20 1048576')])
     table('a call counts the elements of the outputs that it asks for',
-          ['function y = f(v)'] + ['x = v;'] * 252 + ['@', 'y = x(1);', 'end', 'function [p, q] = two(a)', 'p = a;', 'q = p;', 'end'],
-          's8.0:1x4096',
+          ['function y = f(v)'] + ['x = v;'] * 252 + ['@', 'y = x(1);', 'end']
+          + ['function [p, q] = two(a)', 'p = a;', 'q = p;', 'end'], 's8.0:1x4096',
           [('p = two(v);', 'typed s8.0:1x1'),
            ('[p, q] = two(v);', 'refused 254:10 E20 1048576'),
            ('[p] = two(v);', 'typed s8.0:1x1'),

@@ -12,10 +12,9 @@ Text = namedtuple('Text', 'text')
 FimathObject = namedtuple('FimathObject', 'math')
 NumericTypeObject = namedtuple('NumericTypeObject', 'numeric')
 
-# Namedtuples of different classes must not be equal, since two objects could hold equal parts.
-
 
 def same(left, right):
+    """Whether two types are equal; namedtuples of different classes may hold equal parts."""
     return type(left) is type(right) and left == right
 
 

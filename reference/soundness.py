@@ -10,7 +10,7 @@ import node_types
 import values
 from evaluation import evaluate
 from rows import read_declared, walk_of
-from source_generator import random_row
+from source_generator import row_of
 from source_tokens import Refused
 
 
@@ -63,7 +63,7 @@ def main():
     first, count = int(sys.argv[1]), int(sys.argv[2])
     counts, bad = Counter(), 0
     for seed in range(first, first + count):
-        row = random_row(seed)
+        row = row_of(seed)
         faults = check(row, random.Random(seed), counts)
         if faults:
             bad += 1

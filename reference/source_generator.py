@@ -332,3 +332,8 @@ class ControlGenerator(Generator):
 def random_control_row(seed):
     generator = ControlGenerator(seed)
     return generator.make('random control %d' % seed, generator.random.randint(5, 40))
+
+
+def row_of(seed):
+    """A random source; every fourth one has choices, loops, jumps and copies alone."""
+    return random_control_row(seed) if seed % 4 == 3 else random_row(seed)

@@ -140,15 +140,18 @@ def stores(tables):
 def assignments(tables):
     olds = ('a', 'v', 'c', 'g', 'n', 'o', 'i', 'p', 'l', 'F', 'T')
     for old in olds:
-        tables.table('assignments to a variable that holds ' + old, ['x = %s;' % new for new in SAMPLES + ('2', '[1 2 3]', '3i', 'y')],
+        tables.table('assignments to a variable that holds ' + old,
+                     ['x = %s;' % new for new in SAMPLES + ('2', '[1 2 3]', '3i', 'y')],
                      SETTING[:-1] + ['x = %s;' % old, SETTING[-1], '@', 'end', 'end'])
     tables.statements('assignments to the variable of a loop', ['k = %s;' % value for value in SAMPLES])
 
 
 def statements(tables):
-    tables.statements('conditions of a choice', ['if %s, y = a; end' % sample for sample in SAMPLES + ('q', '0', '1:1', '[]', '~p')])
+    tables.statements('conditions of a choice',
+                      ['if %s, y = a; end' % sample for sample in SAMPLES + ('q', '0', '1:1', '[]', '~p')])
     tables.statements('conditions of a later arm', ['if p, y = a; elseif %s, y = a; end' % sample for sample in SAMPLES])
-    tables.statements('conditions of a while', ['while %s, y = a; end' % sample for sample in SAMPLES + ('q', '0', '1:1', 'f(a)')])
+    tables.statements('conditions of a while',
+                      ['while %s, y = a; end' % sample for sample in SAMPLES + ('q', '0', '1:1', 'f(a)')])
     bounds = ['for j = %s, y = a; end' % text for sample in SAMPLES + ('q', '0.5', '3', '-3', '2^31', '2^31-1')
               for text in (sample + ':3', '1:' + sample, '1:%s:3' % sample, sample, '(1:%s)' % sample)]
     tables.statements('ranges of a loop', bounds)
@@ -169,9 +172,11 @@ def statements(tables):
                  + ['two(%s, a)' % sample for sample in SAMPLES + (':',)] + ['two(a, %s)' % sample for sample in SAMPLES + (':',)]
                  + ['two(%s)' % sample for sample in SAMPLES] + ['same(same(%s))' % sample for sample in SAMPLES],
                  SETTING + ['t = @;', 'end', 'end'] + callee)
-    tables.table('targets of a list', ['[%s] = %s;' % (targets, call) for targets in ('t', 't, z', 't, t', 't, z, b', 'k', 'y, t', 't, k')
-                                       for call in ('two(a, a)', 'two(v, a)', 'same(a)', 'same', 'a', 'v(1)', 'later', 'abs(a)', 'size(v,1)',
-                                                    'true', 'fi', 'sqrt', 'nothing(1)', 'mod', "two('x', a)", 'two(:, a)', 'two(q, a)')],
+    calls = ('two(a, a)', 'two(v, a)', 'same(a)', 'same', 'a', 'v(1)', 'later', 'abs(a)', 'size(v,1)', 'true', 'fi', 'sqrt',
+             'nothing(1)', 'mod', "two('x', a)", 'two(:, a)', 'two(q, a)')
+    tables.table('targets of a list',
+                 ['[%s] = %s;' % (targets, call) for targets in ('t', 't, z', 't, t', 't, z, b', 'k', 'y, t', 't, k')
+                  for call in calls],
                  SETTING + ['@', 'end', 'later = a;', 'end'] + callee)
 
 
@@ -190,7 +195,8 @@ def modes(tables):
     settings += ["'CastBeforeSum',false,'SumMode','SpecifyPrecision','SumWordLength',%d,'SumFractionLength',%d" % pair
                  for pair in ((8, 0), (64, 0), (60, 0), (64, 60), (8, 250), (1, -256))]
     for rest in ('+ a', '+ b', '- b', '* a', '* b', '.* v', '* c', '+ c', '* setfimath(c, G)', '* 3', '+ 3'):
-        tables.table('modes of x %s' % rest, settings, [line.replace('%s', rest) for line in lines], 's8.4 u16.8 s8.0:1x1:c s8.0:1x3')
+        tables.table('modes of x %s' % rest, settings, [line.replace('%s', rest) for line in lines],
+                     's8.4 u16.8 s8.0:1x1:c s8.0:1x3')
     for call in ('sum(setfimath(v, G))', "setfimath(v, G)*v'", "setfimath(v, G)'*v", 'setfimath(c, G)*c',
                  "setfimath(d, G)*d'", 'abs(setfimath(a, G))', 'setfimath(a, G) < b'):
         tables.table('modes of ' + call.replace("'", ''), settings,

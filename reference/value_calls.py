@@ -6,7 +6,7 @@ import fixed_point
 from constants import SHAPE_ONE, Constant, element, elements_of
 from fixed_point import NumericType, fit
 from node_types import FimathObject, NumericTypeObject, Text
-from values import (FiValue, LogicalValue, NoRule, accumulated, conjugate, govern, is_real, joint, pattern_of, per_part,
+from values import (FiValue, LogicalValue, accumulated, conjugate, govern, is_real, joint, pattern_of, per_part,
                     quantised, require, stored, usual, within_limits)
 
 

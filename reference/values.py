@@ -7,7 +7,7 @@ import constants
 import fixed_point
 import node_types
 from constants import SHAPE_ONE, Constant, element, elements_of
-from fixed_point import NumericType, OutOfLimits, exact_value, fit, quantise
+from fixed_point import exact_value, fit, quantise
 
 FiValue = namedtuple('FiValue', 'numeric math shape real imaginary')
 LogicalValue = namedtuple('LogicalValue', 'shape elements')

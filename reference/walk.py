@@ -8,11 +8,9 @@ import subscript_rules
 from call_rules import Argument
 from conditions import Conditions
 from constants import SHAPE_ONE, elements_of
-from node_types import Fi, FimathObject, Index, Logical, Number, NumericTypeObject, Text, is_complex, same, shape_of, shown_text
+from node_types import Fi, Index, Logical, Number, Text, is_complex, same, shape_of, shown_text
 from source_tokens import START, Refused
-from source_tree import (Apply, Assign, Binary, Break, Continue, End, For, If, Matrix, Multi, Name, Parenthesis, Range,
-                         Store, Transpose, Unary, While, Words, has_own_jump, parse)
-from source_tree import Number as NumberLeaf
+from source_tree import Apply, Name, Range, has_own_jump, parse
 
 ELEMENTS_LIMIT = 4096
 ALL_ELEMENTS_LIMIT = 1048576
