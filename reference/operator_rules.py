@@ -118,7 +118,6 @@ def binary(node, operator, left, right, left_expression, right_expression):
         node.miss('E18')
         return None
     kinds = {type(left), type(right)}
-    compared = operator in COMPARISONS
     if Logical in kinds and not (operator in EQUALITIES and kinds == {Logical}):
         node.miss('E08')
     if kinds == {Index, Fi}:
