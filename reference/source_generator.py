@@ -20,9 +20,9 @@ FIMATHS = ("fimath", "fimath('RoundingMethod','Floor')", "fimath('OverflowAction
            "fimath('RoundingMethod','Convergent','OverflowAction','Wrap','CastBeforeSum',true)")
 LOCALS = ('t', 'u', 'w', 'x')
 # How often a refused statement is kept, which ends the source; codes that come often are kept seldom.
-KEPT = {'E03': 0.002, 'E05': 0.06, 'E06': 0.003, 'E07': 0.01, 'E08': 0.03, 'E09': 0.03, 'E10': 0.02, 'E11': 0.03, 'E12': 0.06,
-        'E13': 0.3, 'E14': 0.1, 'E15': 0.2, 'E16': 0.05, 'E17': 0.3, 'E18': 0.01, 'E19': 0.02, 'E20': 0.5, 'E21': 0.2,
-        'E22': 0.1}
+KEPT = {'E03': 0.002, 'E05': 0.1, 'E06': 0.004, 'E07': 0.01, 'E08': 0.03, 'E09': 0.02, 'E10': 0.02, 'E11': 0.06, 'E12': 0.05,
+        'E13': 1.0, 'E14': 0.05, 'E15': 0.15, 'E16': 0.05, 'E17': 0.2, 'E18': 0.01, 'E19': 0.02, 'E20': 1.0, 'E21': 0.1,
+        'E22': 0.08}
 UNSUPPORTED = ('sqrt', 'max', 'mod', 'pi', 'isempty', 'nothing', 'idivide')
 
 
@@ -264,6 +264,7 @@ class Generator:
         """A first value of a local variable, so that names hold values of all classes."""
         name = self.pick(self.functions[0].inputs)
         return self.pick(('setfimath(%s, %s)' % (name, self.fimath()), 'setfimath(%s, %s)' % (name, self.fimath()),
+                          'fi(%s, 1, 8, 0, %s)' % (name, self.fimath()), 'fi(%s, 1, 8, 0, %s)' % (name, self.fimath()),
                           '[%s, %s]' % (name, name), '%s > 0' % name, "%s'" % name, self.pick(LITERALS), '[1 2 3]',
                           self.fimath(), 'numerictype(%s)' % name, 'complex(%s, %s)' % (name, name)))
 
