@@ -64,7 +64,8 @@ def shown_text(node_type):
     """The type as a refusal shows it."""
     if isinstance(node_type, Index):
         return 'index'
-    return row_text(node_type) + (':F' if math_of(node_type) is not None else '')
+    math = math_of(node_type)
+    return row_text(node_type) + ('' if math is None else ':' + fimath_text(math))
 
 
 def row_text_with_math(node_type):

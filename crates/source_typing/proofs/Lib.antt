@@ -3,3 +3,4 @@ pub mod Counted
 pub mod Within
 pub mod Blocks
 pub mod Sources
+pub mod Rows

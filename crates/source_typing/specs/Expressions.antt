@@ -5,6 +5,7 @@ use Rattle.fic_base.specs.declared.place.Place.{Place}
 use Rattle.mat_ast.specs.declared.tree.BinOp.{BinOp}
 use Rattle.mat_ast.specs.Tree.{Exp, Number, Words, Name, Apply, End, Unary, Binary, Post, Range, RangeBy, Paren, Matrix, Args, NoArgs, Whole, Item, Row, RowEnd, Cell, Rows, NoRows, RowOn}
 use Rattle.num_type.specs.Constants.{Exact}
+use Rattle.const_fold.specs.OperatorTexts.{operator_text}
 use Rattle.const_rules.specs.LiteralValues.{literal_of}
 use Rattle.fi_rules.specs.Value.{scalar}
 use Rattle.fi_values.specs.Logicals.{deciding}
@@ -17,7 +18,7 @@ use Rattle.node_rules.specs.Logicals.{skip_ruled}
 use Rattle.node_rules.specs.Ranges.{range_ruled}
 use Rattle.node_rules.specs.Signs.{sign_ruled}
 use Rattle.node_rules.specs.Subscripts.{read_ruled}
-use Rattle.node_rules.specs.Texts.{operator_text, sign_text, mark_text}
+use Rattle.node_rules.specs.Texts.{sign_text, mark_text}
 use Rattle.node_rules.specs.Transposes.{post_ruled}
 use Rattle.node_rules.specs.Types.{NodeTy, NumberNode, TextNode, ty_of, shape_of}
 use Rattle.walk_scope.specs.Told.{Told, Passes, Refuses, ◌>>=◌, when◌then◌else◌}
