@@ -40,3 +40,4 @@ pub mod Calls
 pub mod MakerRows
 pub mod BuiltRows
 pub mod Counted
+pub mod Orders

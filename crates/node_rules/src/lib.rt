@@ -8,12 +8,14 @@ ghost use Rattle.fic_base.specs.declared.place.Place.{Place};
 ghost use Rattle.mat_ast.specs.declared.tree.BinOp.{BinOp};
 ghost use Rattle.mat_ast.specs.declared.tree.PostOp.{PostOp};
 ghost use Rattle.mat_ast.specs.declared.tree.UnOp.{UnOp};
-ghost use Rattle.num_type.specs.Constants.{Exact};
+ghost use Rattle.num_type.specs.Constants.{Exact, order_of};
 ghost use Rattle.fi_rules.specs.Value.{Val};
 ghost use Rattle.fi_rules.specs.declared.built_ins.BuiltIn.{BuiltIn};
 ghost use Rattle.fi_rules.specs.declared.work.Work.{Work};
 ghost use Rattle.fi_values.specs.Arithmetic.{is_arithmetic, arithmetic};
 ghost use Rattle.fi_ops.specs.Elements.{Element};
+ghost use Rattle.fi_ops.specs.Operations.{compared};
+ghost use Rattle.node_rules.specs.Comparisons.{exact_value};
 ghost use Rattle.fi_rules.specs.Options.{◌|>◌, all_of};
 ghost use Rattle.fi_eval.specs.Outcome.{or_wrong};
 ghost use Rattle.fi_values.specs.Bits.{two_typed, turned_bits, shifted, concatenated_all, bits_between};
@@ -198,4 +200,10 @@ pub fn calls_go_by_their_rules()
     ensures typed { (name : List ℕ) (args : List Argument) (t : NodeTy) → call_ruled name (argument_items args) ≡ Fine t → ty_of (built_in_value name t (values_of args)) ≡ t }
     ensures colon { (name : List ℕ) (items : List (Option ArgumentTy)) → all_of items ≡ None → fine (call_met name items) ≡ None }
     ensures shape { (m : NamedCall) (t : NodeTy) → call_worked m ≡ Fine t → shape_of t ≡ call_shape m }
+{}
+
+/// Stored integers and constants are compared by one order: that of two elements is that of the exact values that they stand for.
+#[tactic(auto, using(crate::proofs::Orders::order_law))]
+pub fn elements_are_compared_by_their_values()
+    ensures { (a b : Element) → order_of (exact_value a) (exact_value b) ≡ compared a b }
 {}

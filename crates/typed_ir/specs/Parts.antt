@@ -20,6 +20,9 @@ type_of (TRangeBy at t first step last) = t
 type_of (TParen at t e) = t
 type_of (TMatrix at t rows) = t
 
+abbrev pub inputs_of : TFun → List Slot
+inputs_of (Function name at inputs outputs body) = inputs
+
 abbrev pub outputs_of : TFun → List Slot
 outputs_of (Function name at inputs outputs body) = outputs
 
