@@ -92,7 +92,7 @@ mutual
   statement_within (Store to opens args e) cx calls st c h =
       goes_on TypedWithin StaWithin _ _ (typed_within e cx calls st _ c h)
       (λ x k. after_any StaWithin _ _ (λ t. after_any StaWithin _ _ (λ t.
-        goes_on ArgsWithin StaWithin _ _ (subscripts_within args cx calls st to.text 0 _ x.counts k) (λ s l. after_any StaWithin _ _ (λ u. l)))))
+      goes_on ArgsWithin StaWithin _ _ (subscripts_within args cx calls st to.text 0 _ x.counts k) (λ s l. after_any StaWithin _ _ (λ u. l)))))
   statement_within (Multi [] e) cx calls st c h = goes_on TypedWithin StaWithin _ _ (outputs_within e cx calls st _ c h) (λ x k. after_any StaWithin _ _ (λ later. k))
   statement_within (Multi (to ∷ []) e) cx calls st c h = goes_on TypedWithin StaWithin _ _ (typed_within e cx calls st _ c h) (λ x k. after_any StaWithin _ _ (λ later. k))
   statement_within (Multi (to ∷ next ∷ more) e) cx calls st c h =
@@ -102,16 +102,16 @@ mutual
   statement_within (IfElse at arms other) cx calls st c h =
       goes_on ArmsWithin StaWithin _ _
       (arms_within arms at cx calls st c h _ (λ inner more before n k.
-        goes_on BlockWithin ArmsWithin _ _ (goes_on BlockWithin BlockWithin _ _ (statements_within other inner more before n k) (ended_within before)) (λ b l. l)))
+      goes_on BlockWithin ArmsWithin _ _ (goes_on BlockWithin BlockWithin _ _ (statements_within other inner more before n k) (ended_within before)) (λ b l. l)))
       (λ r k. k)
   statement_within (ForEach at to range body) cx calls st c h =
       goes_on BoundsWithin StaWithin _ _
       (goes_on IsWithin BoundsWithin _ _ (nested_within IsWithin at cx.nesting c h) (λ n k. bounds_within range to cx calls st n k))
       (λ l k. goes_on BlockWithin StaWithin _ _
-        (goes_on BlockWithin BlockWithin _ _
-          (goes_on IsWithin BlockWithin _ _ (allowed_within cx to _ l.counts k) (λ n m. statements_within body (looped_over to.text cx) calls _ n m))
-          (ended_within st))
-        (λ b m. m))
+      (goes_on BlockWithin BlockWithin _ _
+      (goes_on IsWithin BlockWithin _ _ (allowed_within cx to _ l.counts k) (λ n m. statements_within body (looped_over to.text cx) calls _ n m))
+      (ended_within st))
+      (λ b m. m))
   statement_within (WhileTrue at test body) cx calls st c h =
       goes_on TypedWithin StaWithin _ _
       (goes_on IsWithin TypedWithin _ _ (nested_within IsWithin at cx.nesting c h) (λ n k. condition_within test (tested_again cx) calls st n k))
@@ -125,10 +125,10 @@ mutual
   arms_within (Arm test body more) at cx calls st c h otherwise other =
       goes_on TypedWithin ArmsWithin _ _ (condition_within test cx calls st c h)
       (λ x k. goes_on BlockWithin ArmsWithin _ _
-        (goes_on BlockWithin BlockWithin _ _
-          (goes_on IsWithin BlockWithin _ _ (nested_within IsWithin at cx.nesting x.counts k) (λ n m. statements_within body (deeper cx) calls st n m))
-          (ended_within st))
-        (λ b m. goes_on ArmsWithin ArmsWithin _ _ (arms_within more at (deeper cx) calls _ b.counts m otherwise other) (λ r w. w)))
+      (goes_on BlockWithin BlockWithin _ _
+      (goes_on IsWithin BlockWithin _ _ (nested_within IsWithin at cx.nesting x.counts k) (λ n m. statements_within body (deeper cx) calls st n m))
+      (ended_within st))
+      (λ b m. goes_on ArmsWithin ArmsWithin _ _ (arms_within more at (deeper cx) calls _ b.counts m otherwise other) (λ r w. w)))
 
   pub statements_within : (b : Block) (cx : Setting) → CallsWithin cx.call → (st : State) (c : Counts) → IsWithin c → Passing BlockWithin (statements_typed b cx st c)
   statements_within Done cx calls st c h = h

@@ -79,18 +79,18 @@ entry_output name t = Refuses code.FloatOperand name.place name.text
 abbrev pub body_typed : FileCall → (Ident → NodeTy → Told NodeTy) → List Fun → Fun → List NodeTy → ℕ → Counts → Told Called
 body_typed call output fs f ts nesting c =
     statements_typed f.body
-      (record {
-        variables = variables_of f;
-        loops = loops_in f.body;
-        inputs = names_of f.inputs;
-        functions = map (λ g. g.name.text) fs;
-        call = call;
-        nesting = nesting;
-        round = [];
-        in_loop = false;
-        in_while = false;
-      })
-      (inputs_typed f.inputs ts none_seen) c
+    (record {
+      variables = variables_of f;
+      loops = loops_in f.body;
+      inputs = names_of f.inputs;
+      functions = map (λ g. g.name.text) fs;
+      call = call;
+      nesting = nesting;
+      round = [];
+      in_loop = false;
+      in_while = false;
+    })
+    (inputs_typed f.inputs ts none_seen) c
     >>= (λ b. outputs_typed output f.outputs b.state
     >>= (λ slots. Passes (record { callee = Function f.name.text f.name.place (input_slots f.inputs ts) slots b.block; counts = b.counts })))
 
